@@ -1,0 +1,4 @@
+pub mod Symbols
+pub mod Layout
+pub mod Tests
+pub mod Contents

@@ -1,0 +1,5 @@
+// Check table files: a code and the rule that the file names, read and written.
+pub mod code;
+mod fields;
+pub mod kind;
+pub mod rule;
