@@ -1,1 +1,5 @@
 pub mod Tests
+pub mod Padded
+pub mod Limits
+pub mod Layouts
+pub mod Readings

@@ -1,9 +1,9 @@
 -- Which refusal comes first.
-use mathlib.Core.Path.{_≡_, refl, sym, ap, _∙_}
+use mathlib.Core.Path.{_≡_, refl, sym, ap, ap₂, _∙_, subst₂}
 use mathlib.Core.Bool.{Bool, true, false, cond, _&&_}
 use mathlib.Core.List.{List, [], _∷_, _++_, map}
 use mathlib.Core.Logic.{_⊎_, inl, inr}
-use Prim.Native.Nat.{ℕ, zero, suc, _+_, _*_, _≤_, _<_}
+use Prim.Native.Nat.{ℕ, zero, suc, _+_, _-_, _*_, _^_, _≤_, _<_}
 use native.Mathlib.Nat.{add-zero, add-assoc, zero-add}
 use native.Mathlib.Omega.{arith}
 use lib.Dec.{eqb, leb, ltb}
@@ -14,9 +14,12 @@ use Rattle.std.specs.declared.option.Option.the-variants.{Some, None}
 use Rattle.std.proofs.shelf.Lists.{getD-take, getD-drop}
 use Rattle.std.proofs.shelf.Tests.{cond-true, cond-false, lt-ltb, le-ltb, le-leb, lt-leb}
 use Rattle.std.proofs.shelf.Ways.{tells}
+use Rattle.std.specs.declared.result.Result.{Result}
+use Rattle.std.specs.declared.result.Result.the-variants.{Err}
 use Rattle.marks.specs.declared.refusal.Refusal.{Refusal}
 use Rattle.marks.specs.declared.refusal.Refusal.the-variants.{CutOff, OtherTag, OtherLength, CheckSymbol, CostInFile}
-use Rattle.checkfile.specs.Tests.{Test, test, firstRefusal, byte, pair, fieldTests, symbolTests, checkTests, priceTests, costTests}
+use Rattle.checkfile.specs.declared.kind.Kind.{Kind}
+use Rattle.checkfile.specs.Tests.{Test, test, firstRefusal, byte, pair, fieldTests, symbolTests, checkTests, priceTests, costTests, sizesFit, Judged, tailTests, CostBytes}
 
 -- tests after others that are passed, and after others that are not
 pub first-later : (before after : List Test) → firstRefusal before ≡ None → firstRefusal (before ++ after) ≡ firstRefusal after
@@ -126,27 +129,43 @@ module _ (file contents : List ℕ) (at q size : ℕ) (part : contents ≡ take 
       ∙ all-pass (λ j. test (ltb (byte file (at + 3 + j)) q) (CheckSymbol (at + 3 + j))) size
         (λ j l. lt-ltb (byte file (at + 3 + j)) q (omega (arith, each j l, contents-byte file contents (at + 3) size j part l)))
 
+pub contents-pair : (file contents : List ℕ) (at n k : ℕ) → contents ≡ take (2 * n) (drop (at + 3) file) → k < n → pair contents (2 * k) ≡ pair file (at + 3 + 2 * k)
+contents-pair file contents at n k part h =
+    omega (
+        arith,
+        contents-byte file contents (at + 3) (2 * n) (2 * k) part (omega arith),
+        contents-byte file contents (at + 3) (2 * n) (2 * k + 1) part (omega arith),
+        ap (byte file) (add-assoc (at + 3) (2 * k) 1))
+
 -- a field of costs, likewise
 module _ (file contents : List ℕ) (at n : ℕ) (part : contents ≡ take (2 * n) (drop (at + 3) file)) (field : firstRefusal (fieldTests file at 5 (2 * n)) ≡ None) where
-  pub contents-pair : (k : ℕ) → k < n → pair contents (2 * k) ≡ pair file (at + 3 + 2 * k)
-  contents-pair k h =
-      omega (
-          arith,
-          contents-byte file contents (at + 3) (2 * n) (2 * k) part (omega arith),
-          contents-byte file contents (at + 3) (2 * n) (2 * k + 1) part (omega arith),
-          ap (byte file) (add-assoc (at + 3) (2 * k) 1))
-
   pub cost-fails : (k : ℕ) → k < n → ((j : ℕ) → j < k → pair contents (2 * j) ≤ 1000) → 1000 < pair contents (2 * k) → firstRefusal (costTests file at n) ≡ Some (CostInFile (at + 3 + 2 * k))
   unfolding priceTests
   cost-fails k h before here =
       first-later (fieldTests file at 5 (2 * n)) (priceTests file at n) field
       ∙ one-fails (λ j. test (leb (pair file (at + 3 + 2 * j)) 1000) (CostInFile (at + 3 + 2 * j))) n k h
-        (λ j l. le-leb (pair file (at + 3 + 2 * j)) 1000 (omega (arith, before j l, contents-pair j (omega arith))))
-        (lt-leb (pair file (at + 3 + 2 * k)) 1000 (omega (arith, contents-pair k h)))
+        (λ j l. le-leb (pair file (at + 3 + 2 * j)) 1000 (omega (arith, before j l, contents-pair file contents at n j part (omega arith))))
+        (lt-leb (pair file (at + 3 + 2 * k)) 1000 (omega (arith, contents-pair file contents at n k part h)))
 
   pub costs-pass : ((j : ℕ) → j < n → pair contents (2 * j) ≤ 1000) → firstRefusal (costTests file at n) ≡ None
   unfolding priceTests
   costs-pass each =
       first-later (fieldTests file at 5 (2 * n)) (priceTests file at n) field
       ∙ all-pass (λ j. test (leb (pair file (at + 3 + 2 * j)) 1000) (CostInFile (at + 3 + 2 * j))) n
-        (λ j l. le-leb (pair file (at + 3 + 2 * j)) 1000 (omega (arith, each j l, contents-pair j l)))
+        (λ j l. le-leb (pair file (at + 3 + 2 * j)) 1000 (omega (arith, each j l, contents-pair file contents at n j part l)))
+
+-- what sizes that fit keep
+pub sizes-within : (q n r : ℕ) → sizesFit q n r ≡ true → ((1 ≤ n) × (1 ≤ r)) × ((n * (q - 1) ≤ 24) × (q ^ r ≤ 256))
+sizes-within q n r h = grind (arith, tells)
+
+-- a step that ends in a refusal, where that is the first
+pub judged-err : {T : Type 0} (ts : List Test) (P : T → Type 0) (r : Result T Refusal) (y e : Refusal) → r ≡ Err y → y ≡ e → firstRefusal ts ≡ Some e → Judged ts P r
+judged-err ts P r y e h k l = rw h (l ∙ ap Some (sym k))
+
+-- the tests of the tail of the same file at the same place
+pub tail-moved : (file file′ : List ℕ) (at at′ n n′ : ℕ) (kind kind′ : Kind) (x : Option Refusal) → file′ ≡ file → at′ ≡ at → n′ ≡ n → kind′ ≡ kind → firstRefusal (tailTests file′ at′ n′ kind′) ≡ x → firstRefusal (tailTests file at n kind) ≡ x
+tail-moved file file′ at at′ n n′ kind kind′ x e f g h l =
+    ap₂ (λ a b. firstRefusal (tailTests a b n kind)) (sym e) (sym f) ∙ ap₂ (λ a b. firstRefusal (tailTests file′ at′ a b)) (sym g) (sym h) ∙ l
+
+pub costs-moved : (file file′ : List ℕ) (at at′ n : ℕ) (kind : Kind) (bytes : List ℕ) → file′ ≡ file → at′ ≡ at → CostBytes file′ at′ n kind bytes → CostBytes file at n kind bytes
+costs-moved file file′ at at′ n kind bytes e f h = subst₂ (λ a b. CostBytes a b n kind bytes) e f h

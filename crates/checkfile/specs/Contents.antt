@@ -1,14 +1,19 @@
 -- What a code and a rule's description say, and what a file says of itself.
-use mathlib.Core.List.{List, map}
+use mathlib.Core.Path.{_≡_}
+use mathlib.Core.List.{List, [], _∷_, map}
 use Prim.Native.Nat.{ℕ, _+_, _*_}
 use lib.ListN.{take, drop}
 use Rattle.std.specs.Iters.{counting}
+use Rattle.std.specs.declared.option.Option.{Option}
+use Rattle.std.specs.declared.option.Option.the-variants.{Some, None}
 use Rattle.algebra.specs.Checks.{Checks}
+use Rattle.marks.specs.declared.refusal.Refusal.{Refusal}
 use Rattle.checkfile.specs.declared.code.Code.{Code}
 use Rattle.checkfile.specs.declared.rule.FileRule.{FileRule}
 use Rattle.checkfile.specs.Symbols.{checkAt}
-use Rattle.checkfile.specs.Layout.{Content, kindOf, costsUnder}
-use Rattle.checkfile.specs.Tests.{byte, pair, countAt, placesAt, rowsAt, ruleAt, costOffset}
+use Rattle.checkfile.specs.declared.kind.Kind.the-variants.{Plain}
+use Rattle.checkfile.specs.Layout.{Content, Sound, layout, kindOf, costsUnder}
+use Rattle.checkfile.specs.Tests.{firstRefusal, tests, pair, countAt, placesAt, rowsAt, ruleAt, costOffset}
 
 -- a code as a check table
 abbrev pub checksOf : Code → Checks
@@ -35,3 +40,16 @@ contentAt file = record {
   kind = kindOf (ruleAt file);
   costs = costsUnder (kindOf (ruleAt file)) (map (λ k. pair file (costOffset file + 3 + 2 * k)) (counting 0 (placesAt file)));
 }
+
+-- what stands beside a refusal: one place of bits with the check symbol 0, under the plain rule
+abbrev pub blankContent : Content
+blankContent = record { q = 2; n = 1; r = 1; checks = 0 ∷ []; kind = Plain; costs = [] }
+
+-- A file is accepted exactly if it is the layout of some sound content, and then that content is the answer.
+pub record Read (file : List ℕ) (code : Code) (rule : FileRule) (refused : Option Refusal) : Type 0 where
+  pub first-failing-test : refused ≡ firstRefusal (tests file)
+  pub accepted-is-a-layout : refused ≡ None → file ≡ layout (contentOf code rule)
+  pub accepted-is-sound : refused ≡ None → Sound (contentOf code rule)
+  pub accepted-rule-fits : refused ≡ None → rule .n ≡ code .n
+  pub every-layout-is-accepted : (c : Content) → Sound c → file ≡ layout c → (refused ≡ None) × (contentOf code rule ≡ c)
+  pub refused-is-blank : (e : Refusal) → refused ≡ Some e → (contentOf code rule ≡ blankContent) × (rule .n ≡ 1)

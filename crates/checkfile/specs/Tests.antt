@@ -2,9 +2,9 @@
 use mathlib.Core.Path.{_≡_}
 use mathlib.Core.Bool.{Bool, cond, _&&_}
 use mathlib.Core.List.{List, [], _∷_, _++_, map}
-use Prim.Native.Nat.{ℕ, _+_, _-_, _*_, _^_}
+use Prim.Native.Nat.{ℕ, _+_, _-_, _*_, _^_, _≤_, _<_}
 use lib.Dec.{eqb, leb, ltb}
-use lib.ListN.{length, getD}
+use lib.ListN.{length, getD, take, drop}
 use Rattle.std.specs.Iters.{counting}
 use Rattle.std.specs.declared.option.Option.{Option}
 use Rattle.std.specs.declared.option.Option.the-variants.{Some, None}
@@ -113,3 +113,35 @@ module _ (file : List ℕ) where
 abbrev pub Judged : {T : Type 0} → List Test → (T → Type 0) → Result T Refusal → Type 0
 Judged tests P (Ok x) = (firstRefusal tests ≡ None) × P x
 Judged tests P (Err refusal) = firstRefusal tests ≡ Some refusal
+
+-- the bytes of the costs that follow a rule, none unless it is by cost
+pub record CostBytesAt (file : List ℕ) (at n : ℕ) (bytes : List ℕ) : Type 0 where
+  pub part : bytes ≡ take (2 * n) (drop (at + 3) file)
+  pub long : length bytes ≡ 2 * n
+  pub affordable : (k : ℕ) → k < n → pair bytes (2 * k) ≤ 1000
+
+abbrev pub CostBytes : List ℕ → ℕ → ℕ → Kind → List ℕ → Type 0
+CostBytes file at n Plain bytes = Unit {0}
+CostBytes file at n Weight bytes = Unit {0}
+CostBytes file at n Cost bytes = CostBytesAt file at n bytes
+
+-- the limits of a check table
+pub record Limits (q n r : ℕ) : Type 0 where
+  pub least-q : 2 ≤ q
+  pub most-q : q ≤ 4
+  pub least-n : 1 ≤ n
+  pub most-n : n * (q - 1) ≤ 24
+  pub least-r : 1 ≤ r
+  pub most-r : q ^ r ≤ 256
+
+-- what an accepted file says, with its lists still in the file
+pub record Said (file : List ℕ) (q n r : ℕ) (checks : List ℕ) (kind : Kind) (costs : List ℕ) : Type 0 where
+  pub count : q ≡ countAt file
+  pub places : n ≡ placesAt file
+  pub rows : r ≡ rowsAt file
+  pub limits : Limits q n r
+  pub part : checks ≡ take (n * r) (drop 12 file)
+  pub long : length checks ≡ n * r
+  pub symbols : (k : ℕ) → k < n * r → getD checks k 0 < q
+  pub rule : kind ≡ kindOf (ruleAt file)
+  pub prices : CostBytes file (costOffset file) n kind costs

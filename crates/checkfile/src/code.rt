@@ -1,17 +1,16 @@
 // A check table: for each of n places, r check symbols below q. Only a reader makes one.
 ghost use mathlib.Core.Path.{_≡_};
 ghost use Prim.Native.Nat.{ℕ, _-_, _*_, _^_, _<_, _≤_};
-ghost use lib.ListN.{length, getD};
+ghost use lib.ListN.{length, getD, take};
 ghost use Rattle.checkfile.specs.Symbols.{checkAt};
-
-// The most check symbols that any sizes within the limits have: 24 places of 8.
-pub(crate) const MOST_CHECKS: usize = 192;
+ghost use Rattle.checkfile.specs.Tests.{Limits};
 
 #[derive(Clone, Copy)]
 pub struct Code {
     pub(crate) q: u8,
     pub(crate) n: usize,
     pub(crate) r: usize,
+    // The most that any sizes within the limits have: 24 places of 8.
     pub(crate) checks: [u8; 192],
     ghost counts: { (2 ≤ q) × (q ≤ 4) },
     ghost places: { (1 ≤ n) × (n * (q - 1) ≤ 24) },
@@ -23,7 +22,34 @@ pub struct Code {
     ghost past: { (k : ℕ) → n * r ≤ k → getD checks k 0 ≡ 0 },
 }
 
+// The symbols, and 0 past them.
+fn padded(symbols: &[u8]) -> [u8; 192]
+    requires { ⌜ length (now symbols) ≤ 192 ⌝ }
+    ensures len { λ r. ⌜ length r ≡ 192 ⌝ }
+    ensures items { λ r. ⌜ ((k : ℕ) → getD r k 0 ≡ getD (now (symbols .entry)) k 0) ⌝ }
+{
+    let mut checks = [0; 192];
+    for (k, symbol) in symbols.iter().enumerate() {
+        checks[k] = *symbol;
+    }
+    checks
+}
+
 impl Code {
+    pub(crate) fn new(q: u8, n: usize, r: usize, symbols: &[u8]) -> Code
+        requires limits { ⌜ Limits q n r ⌝ }
+        requires long { ⌜ length (now symbols) ≡ n * r ⌝ }
+        requires below { ⌜ ((k : ℕ) → k < n * r → getD (now symbols) k 0 < q) ⌝ }
+        ensures { λ code. ⌜ (code .q ≡ q) × (code .n ≡ n) × (code .r ≡ r) × (take (n * r) (code .checks) ≡ now (symbols .entry)) ⌝ }
+    {
+        Code {
+            q,
+            n,
+            r,
+            checks: padded(symbols),
+        }
+    }
+
     pub fn q(&self) -> u8
         ensures { λ r. ⌜ r ≡ now (self .entry) .q ⌝ }
     {

@@ -4,7 +4,7 @@ ghost use mathlib.Core.Bool.{true, false};
 ghost use Prim.Native.Nat.{ℕ, _+_, _-_, _*_, _^_, _<_, _≤_};
 ghost use denote.Ref.{now};
 ghost use lib.ListN.{length, getD, take, drop};
-ghost use Rattle.checkfile.specs.Tests.{Judged, fieldTests, countTests, sizeTests, checkTests, ruleTests, costTests, endTests, byte, pair, sizesFit};
+ghost use Rattle.checkfile.specs.Tests.{Judged, fieldTests, countTests, sizeTests, checkTests, ruleTests, costTests, endTests, tailTests, CostBytes, byte, pair, sizesFit};
 ghost use Rattle.checkfile.specs.Layout.{kindOf};
 use crate::kind::Kind;
 use marks::refusal::Refusal;
@@ -96,7 +96,7 @@ impl<'a> Reader<'a> {
     pub(crate) fn sizes(&mut self, q: u8) -> Result<(usize, usize), Refusal>
         requires { ⌜ 2 ≤ q ⌝ ∗ ⌜ q ≤ 4 ⌝ }
         ensures file { λ _. ⌜ now (now (self .exit) .file) ≡ now (now (self .entry) .file) ⌝ }
-        ensures judged { λ r. ⌜ Judged (sizeTests (now (now (self .entry) .file)) (now (self .entry) .offset) q) (λ s. (s .0 ≡ byte (now (now (self .entry) .file)) (now (self .entry) .offset + 3)) × (s .1 ≡ byte (now (now (self .entry) .file)) (now (self .entry) .offset + 4)) × (now (self .exit) .offset ≡ now (self .entry) .offset + 5)) r ⌝ }
+        ensures judged { λ r. ⌜ Judged (sizeTests (now (now (self .entry) .file)) (now (self .entry) .offset) q) (λ s. (s .0 ≡ byte (now (now (self .entry) .file)) (now (self .entry) .offset + 3)) × (s .1 ≡ byte (now (now (self .entry) .file)) (now (self .entry) .offset + 4)) × (now (self .exit) .offset ≡ now (self .entry) .offset + 5) × (1 ≤ s .0) × (s .0 * (q - 1) ≤ 24) × (1 ≤ s .1) × (q ^ s .1 ≤ 256)) r ⌝ }
     {
         let field = self.field(2, 2)?;
         let n = field.contents[0];
@@ -110,7 +110,7 @@ impl<'a> Reader<'a> {
     // The check symbols, those of the first place first.
     pub(crate) fn checks(&mut self, q: u8, size: usize) -> Result<&'a [u8], Refusal>
         ensures file { λ _. ⌜ now (now (self .exit) .file) ≡ now (now (self .entry) .file) ⌝ }
-        ensures judged { λ r. ⌜ Judged (checkTests (now (now (self .entry) .file)) (now (self .entry) .offset) q size) (λ checks. (now checks ≡ take size (drop (now (self .entry) .offset + 3) (now (now (self .entry) .file)))) × (length (now checks) ≡ size) × (now (self .exit) .offset ≡ now (self .entry) .offset + 3 + size)) r ⌝ }
+        ensures judged { λ r. ⌜ Judged (checkTests (now (now (self .entry) .file)) (now (self .entry) .offset) q size) (λ checks. (now checks ≡ take size (drop (now (self .entry) .offset + 3) (now (now (self .entry) .file)))) × (length (now checks) ≡ size) × (now (self .exit) .offset ≡ now (self .entry) .offset + 3 + size) × ((k : ℕ) → k < size → getD (now checks) k 0 < q)) r ⌝ }
     {
         let field = self.field(3, size)?;
         for (k, symbol) in field.contents.iter().enumerate() {
@@ -136,7 +136,7 @@ impl<'a> Reader<'a> {
     pub(crate) fn costs(&mut self, n: usize) -> Result<&'a [u8], Refusal>
         requires { ⌜ n ≤ 24 ⌝ }
         ensures file { λ _. ⌜ now (now (self .exit) .file) ≡ now (now (self .entry) .file) ⌝ }
-        ensures judged { λ r. ⌜ Judged (costTests (now (now (self .entry) .file)) (now (self .entry) .offset) n) (λ costs. (now costs ≡ take (2 * n) (drop (now (self .entry) .offset + 3) (now (now (self .entry) .file)))) × (length (now costs) ≡ 2 * n) × (now (self .exit) .offset ≡ now (self .entry) .offset + 3 + 2 * n)) r ⌝ }
+        ensures judged { λ r. ⌜ Judged (costTests (now (now (self .entry) .file)) (now (self .entry) .offset) n) (λ costs. (now costs ≡ take (2 * n) (drop (now (self .entry) .offset + 3) (now (now (self .entry) .file)))) × (length (now costs) ≡ 2 * n) × (now (self .exit) .offset ≡ now (self .entry) .offset + 3 + 2 * n) × ((k : ℕ) → k < n → pair (now costs) (2 * k) ≤ 1000)) r ⌝ }
     {
         let field = self.field(5, 2 * n)?;
         for k in 0..n {
@@ -147,12 +147,30 @@ impl<'a> Reader<'a> {
         Ok(field.contents)
     }
 
-    pub(crate) fn end(&self) -> Result<(), Refusal>
+    fn end(&self) -> Result<(), Refusal>
         ensures { λ r. ⌜ Judged (endTests (now (now (self .entry) .file)) (now (self .entry) .offset)) (λ _. now (self .entry) .offset ≡ length (now (now (self .entry) .file))) r ⌝ }
     {
         if self.offset < self.file.len() {
             return Err(Refusal::Surplus(self.offset));
         }
         Ok(())
+    }
+
+    // What follows the rule: its costs, if it has any, and then nothing.
+    pub(crate) fn tail(&mut self, n: usize, kind: Kind) -> Result<&'a [u8], Refusal>
+        requires { ⌜ n ≤ 24 ⌝ }
+        ensures { λ r. ⌜ Judged (tailTests (now (now (self .entry) .file)) (now (self .entry) .offset) n kind) (λ costs. CostBytes (now (now (self .entry) .file)) (now (self .entry) .offset) n kind (now costs)) r ⌝ }
+    {
+        match kind {
+            Kind::Plain | Kind::Weight => {
+                self.end()?;
+                Ok(&[])
+            }
+            Kind::Cost => {
+                let costs = self.costs(n)?;
+                self.end()?;
+                Ok(costs)
+            }
+        }
     }
 }

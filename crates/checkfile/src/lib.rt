@@ -2,4 +2,5 @@
 pub mod code;
 mod fields;
 pub mod kind;
+pub mod reading;
 pub mod rule;

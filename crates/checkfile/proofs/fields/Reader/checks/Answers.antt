@@ -35,5 +35,5 @@ returns c =
       judged = (
         symbols-pass (c .args .self .now .file .now) (c .in-Continue-field .field .contents .now) (c .args .self .now .offset) (c .args .q) (c .args .size) (f .1 .1) (f .0)
         (λ j h. c .loop-k .inv j (omega (arith, f .1 .2))),
-        (f .1 .1, f .1 .2, f .1 .3));
+        (f .1 .1, f .1 .2, f .1 .3, λ j h. c .loop-k .inv j (omega (arith, f .1 .2))));
     }

@@ -7,7 +7,7 @@ use Rattle.std.specs.declared.option.Option.the-variants.{Some}
 use Rattle.std.proofs.shelf.Results.{err-from-errBy}
 use Rattle.marks.specs.declared.refusal.Refusal.the-variants.{Size}
 use Rattle.checkfile.specs.Tests.{byte, fieldTests, sizesFit}
-use Rattle.checkfile.proofs.Tests.{first-here, value-fails, value-passes, first-byte, second-byte}
+use Rattle.checkfile.proofs.Tests.{first-here, value-fails, value-passes, first-byte, second-byte, sizes-within}
 use Rattle.checkfile.proofs.fields.Reader.sizes.Needs as need
 
 pub returns-in-Break-field : need.returns-in-Break-field
@@ -39,7 +39,8 @@ returns c =
     let n = first-byte file _ at 2 (f .1 .1) (omega arith) in
     let r = second-byte file _ at 2 (f .1 .1) (omega arith) in
     let fit : sizesFit (c .args .q) (byte file (at + 3)) (byte file (at + 4)) ≡ true = ap₂ (sizesFit (c .args .q)) (sym n) (sym r) ∙ sym (c .if-not-sizes-fit .ensures tt) in
+    let limits = sizes-within (c .args .q) _ _ (sym (c .if-not-sizes-fit .ensures tt)) in
     record {
       file = c .field .ensures .file;
-      judged = (value-passes (fieldTests file at 2 2) _ (Size (at + 3)) (f .0) fit, (n, r, omega (arith, f .1 .3)));
+      judged = (value-passes (fieldTests file at 2 2) _ (Size (at + 3)) (f .0) fit, (n, r, omega (arith, f .1 .3), limits .0 .0, limits .1 .0, limits .0 .1, limits .1 .1));
     }
