@@ -3,3 +3,5 @@ pub mod Padded
 pub mod Limits
 pub mod Layouts
 pub mod Readings
+pub mod Puts
+pub mod Written

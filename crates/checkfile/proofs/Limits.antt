@@ -6,6 +6,7 @@ use native.Mathlib.Nat.{mul-le-mul-left, mul-one, pow-le-pow-left, pow-le-pow-ri
 use native.Mathlib.Omega.{arith}
 use Rattle.std.proofs.shelf.Bits.{mul-le}
 use Rattle.std.proofs.shelf.Tests.{cases-lt}
+use Rattle.checkfile.specs.declared.code.Code.{Code}
 use Rattle.checkfile.specs.Tests.{Limits}
 
 module _ (q n r : ℕ) (limits : Limits q n r) where
@@ -23,3 +24,13 @@ module _ (q n r : ℕ) (limits : Limits q n r) where
 
   pub most-checks : n * r ≤ 192
   most-checks = mul-le n r 24 8 most-places most-rows
+
+pub limits-of : (code : Code) → Limits (code .q) (code .n) (code .r)
+limits-of code = record {
+  least-q = code .counts .0;
+  most-q = code .counts .1;
+  least-n = code .places .0;
+  most-n = code .places .1;
+  least-r = code .rows .0;
+  most-r = code .rows .1;
+}

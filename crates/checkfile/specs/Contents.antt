@@ -1,18 +1,23 @@
 -- What a code and a rule's description say, and what a file says of itself.
 use mathlib.Core.Path.{_≡_}
-use mathlib.Core.List.{List, [], _∷_, map}
+use mathlib.Core.Bool.{cond, _&&_}
+use mathlib.Core.List.{List, [], _∷_, _++_, map}
 use Prim.Native.Nat.{ℕ, _+_, _*_}
-use lib.ListN.{take, drop}
+use lib.Dec.{eqb, leb}
+use lib.ListN.{length, take, drop}
 use Rattle.std.specs.Iters.{counting}
 use Rattle.std.specs.declared.option.Option.{Option}
 use Rattle.std.specs.declared.option.Option.the-variants.{Some, None}
+use Rattle.std.specs.declared.result.Result.{Result}
+use Rattle.std.specs.declared.result.Result.the-variants.{Ok, Err}
 use Rattle.algebra.specs.Checks.{Checks}
 use Rattle.marks.specs.declared.refusal.Refusal.{Refusal}
+use Rattle.marks.specs.declared.refusal.Refusal.the-variants.{RuleOfOtherCode, FileTooShort}
 use Rattle.checkfile.specs.declared.code.Code.{Code}
 use Rattle.checkfile.specs.declared.rule.FileRule.{FileRule}
 use Rattle.checkfile.specs.Symbols.{checkAt}
 use Rattle.checkfile.specs.declared.kind.Kind.the-variants.{Plain}
-use Rattle.checkfile.specs.Layout.{Content, Sound, layout, kindOf, costsUnder}
+use Rattle.checkfile.specs.Layout.{Content, Sound, layout, costField, kindOf, costsUnder}
 use Rattle.checkfile.specs.Tests.{firstRefusal, tests, pair, countAt, placesAt, rowsAt, ruleAt, costOffset}
 
 -- a code as a check table
@@ -53,3 +58,25 @@ pub record Read (file : List ℕ) (code : Code) (rule : FileRule) (refused : Opt
   pub accepted-rule-fits : refused ≡ None → rule .n ≡ code .n
   pub every-layout-is-accepted : (c : Content) → Sound c → file ≡ layout c → (refused ≡ None) × (contentOf code rule ≡ c)
   pub refused-is-blank : (e : Refusal) → refused ≡ Some e → (contentOf code rule ≡ blankContent) × (rule .n ≡ 1)
+
+-- the field of a rule's costs
+abbrev pub ruleCosts : FileRule → List ℕ
+ruleCosts rule = costField (rule .kind) (costsUnder (rule .kind) (take (rule .n) (rule .costs)))
+
+-- What writing answers and leaves in the buffer: the layout in front of what lay past it, or a refusal and the buffer as it was.
+abbrev pub writeAnswer : Code → FileRule → ℕ → Result ℕ Refusal
+writeAnswer code rule room =
+    cond (eqb (rule .n) (code .n))
+    (cond (leb (length (layout (contentOf code rule))) room) (Ok (length (layout (contentOf code rule)))) (Err FileTooShort))
+    (Err RuleOfOtherCode)
+
+abbrev pub bufferAfter : Code → FileRule → List ℕ → List ℕ
+bufferAfter code rule before =
+    cond (eqb (rule .n) (code .n) && leb (length (layout (contentOf code rule))) (length before))
+    (layout (contentOf code rule) ++ drop (length (layout (contentOf code rule))) before)
+    before
+
+-- reading what was written gives it back
+abbrev pub ReadsBack : Code → FileRule → List ℕ → Result ℕ Refusal → Type 0
+ReadsBack code rule after (Ok size) = (firstRefusal (tests (take size after)) ≡ None) × (contentAt (take size after) ≡ contentOf code rule)
+ReadsBack code rule after (Err refusal) = Unit {0}

@@ -2,9 +2,9 @@
 use mathlib.Core.Path.{_≡_}
 use mathlib.Core.Bool.{Bool, _&&_}
 use mathlib.Core.List.{List, [], _∷_, _++_}
-use Prim.Native.Nat.{ℕ, zero, suc, _-_, _*_, _/_, _%_, _^_, _≤_, _<_}
+use Prim.Native.Nat.{ℕ, zero, suc, _+_, _-_, _*_, _/_, _%_, _^_, _≤_, _<_}
 use lib.Dec.{leb}
-use lib.ListN.{length, getD}
+use lib.ListN.{length, getD, take, drop}
 use Rattle.std.specs.shelf.Lists.{joined}
 use Rattle.checkfile.specs.declared.kind.Kind.{Kind}
 use Rattle.checkfile.specs.declared.kind.Kind.the-variants.{Plain, Weight, Cost}
@@ -76,3 +76,9 @@ pub record Sound (c : Content) : Type 0 where
   pub table : length (c .checks) ≡ c .n * c .r
   pub symbols : (k : ℕ) → k < c .n * c .r → getD (c .checks) k 0 < c .q
   pub costs : CostsOf (c .kind) (c .n) (c .costs)
+
+-- bytes put into a buffer at an offset, and the offset past them
+pub record Put (bytes : List ℕ) (at : ℕ) (before after : List ℕ) (next : ℕ) : Type 0 where
+  pub moves-on : next ≡ at + length bytes
+  pub front : take next after ≡ take at before ++ bytes
+  pub back : drop next after ≡ drop next before

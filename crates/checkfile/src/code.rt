@@ -68,6 +68,14 @@ impl Code {
         self.r
     }
 
+    // All check symbols, those of the first place first.
+    pub(crate) fn symbols(&self) -> &[u8]
+        ensures value { λ r. ⌜ now r ≡ take (now (self .entry) .n * now (self .entry) .r) (now (self .entry) .checks) ⌝ }
+        ensures len { λ r. ⌜ length (now r) ≡ now (self .entry) .n * now (self .entry) .r ⌝ }
+    {
+        &self.checks[0..self.n * self.r]
+    }
+
     // Check symbol j of a place, both counted from 0; 0 where there is none.
     pub fn check(&self, place: usize, j: usize) -> u8
         ensures { λ r. ⌜ r ≡ checkAt (now (self .entry) .n) (now (self .entry) .r) (now (self .entry) .checks) place j ⌝ }

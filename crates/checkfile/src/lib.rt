@@ -4,3 +4,4 @@ mod fields;
 pub mod kind;
 pub mod reading;
 pub mod rule;
+pub mod writing;
