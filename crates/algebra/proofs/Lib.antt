@@ -1,3 +1,4 @@
 pub mod Digits
 pub mod Symbols
 pub mod Marks
+pub mod Checks

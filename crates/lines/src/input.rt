@@ -9,6 +9,8 @@ ghost use Rattle.std.specs.Vec.{made};
 ghost use Rattle.lines.specs.Input.{Takes, unread, firstLine, afterLine, symbolOf};
 use std::alloc::AllocError;
 use std::alloc::Global;
+use std::io;
+use std::io::BufRead;
 
 // What `symbol` answers where a character is no symbol: no alphabet has it.
 pub const NO_SYMBOL: u8 = 4;
@@ -59,6 +61,17 @@ fn cut(bytes: &[u8]) -> (&[u8], &[u8])
     (bytes, &[])
 }
 
+// At most as many lines of a reader as are wanted. What a reader gives no contract can say.
+pub fn first_lines(heap: Global, reader: &mut impl BufRead, most: usize) -> io::Result<Vec<u8>> {
+    let mut input = Vec::new(heap);
+    for _ in 0..most {
+        if reader.read_until(b'\n', &mut input)? == 0 {
+            break;
+        }
+    }
+    Ok(input)
+}
+
 pub fn symbol(character: u8) -> u8
     ensures { λ r. ⌜ r ≡ symbolOf character ⌝ }
 {
@@ -103,6 +116,13 @@ mod tests {
         check_eq(barred(rt.alloc(), b"a")?.as_slice(), b"a|")?;
         check_eq(barred(rt.alloc(), b"a\nb\n")?.as_slice(), b"a|b|")?;
         check_eq(barred(rt.alloc(), b"a\r\n\nb")?.as_slice(), b"a\r||b|")
+    }
+
+    #[test]
+    fn no_more_lines_are_read_than_wanted(rt: LibcRuntime) -> Result<(), Fail> {
+        let mut reader: &[u8] = b"a\n\nb\nc";
+        check_eq(first_lines(rt.alloc(), &mut reader, 3)?.as_slice(), b"a\n\nb\n")?;
+        check_eq(first_lines(rt.alloc(), &mut reader, 3)?.as_slice(), b"c")
     }
 
     #[test]

@@ -1,0 +1,2 @@
+// The check values of a mark, and the coset that they name.
+pub mod checks;
