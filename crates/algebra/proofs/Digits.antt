@@ -38,8 +38,8 @@ same-digits zero u v hu hv e = omega arith
 same-digits (suc n) u v hu hv e =
     let first : u % 4 ≡ v % 4 = sym (digit-first u) ∙ e 0 (omega arith) ∙ digit-first v in
     let rest : u / 4 ≡ v / 4 =
-          same-digits n (u / 4) (v / 4) (omega (arith, pow-succ' 4 n)) (omega (arith, pow-succ' 4 n))
-          (λ i h. sym (digit-rest u i) ∙ e (suc i) (omega arith) ∙ digit-rest v i)
+    same-digits n (u / 4) (v / 4) (omega (arith, pow-succ' 4 n)) (omega (arith, pow-succ' 4 n))
+    (λ i h. sym (digit-rest u i) ∙ e (suc i) (omega arith) ∙ digit-rest v i)
     in omega arith
 
 pub pack-below : (b n : ℕ) (f : ℕ → ℕ) → ((i : ℕ) → i < n → f i < b) → pack b n f < b ^ n
@@ -80,7 +80,7 @@ pack-top b (suc n) f =
     let rest : pack b (suc n) (λ i. f (suc i)) ≡ p + f (suc n) * b ^ n = pack-top b n (λ i. f (suc i)) in
     let spread : b * (p + f (suc n) * b ^ n) ≡ b * p + b * (f (suc n) * b ^ n) = mul-add b p (f (suc n) * b ^ n) in
     let top : b * (f (suc n) * b ^ n) ≡ f (suc n) * b ^ suc n =
-          sym (mul-assoc b (f (suc n)) (b ^ n)) ∙ ap (λ x. x * b ^ n) (mul-comm b (f (suc n))) ∙ mul-assoc (f (suc n)) b (b ^ n) ∙ ap (λ x. f (suc n) * x) (sym (pow-succ' b n))
+    sym (mul-assoc b (f (suc n)) (b ^ n)) ∙ ap (λ x. x * b ^ n) (mul-comm b (f (suc n))) ∙ mul-assoc (f (suc n)) b (b ^ n) ∙ ap (λ x. f (suc n) * x) (sym (pow-succ' b n))
     in ap (λ x. f 0 + b * x) rest ∙ omega arith
 
 pub pack-none : (b : ℕ) (f : ℕ → ℕ) → pack b 0 f ≡ 0

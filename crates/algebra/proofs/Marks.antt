@@ -96,6 +96,7 @@ changed-put n u i a h k l =
   where
     symbol : ℕ → ℕ
     symbol j = cond (eqb j i) a (digit u j)
+
     symbol-below : (j : ℕ) → symbol j < 4
     symbol-below j = cond-both (eqb j i) a (digit u j) (λ x. x < 4) (λ _. h) (λ _. digit-symbol u j)
 
@@ -146,13 +147,13 @@ folded-weight (suc n) u =
     let split : u ≡ w * 2 ^ 2 + u % 4 = omega arith in
     let split-half : u / 2 ≡ w / 2 * 2 ^ 2 + u / 2 % 4 = omega arith in
     let merged : bitOr u (u / 2) ≡ bitOr w (w / 2) * 2 ^ 2 + bitOr (u % 4) (u / 2 % 4) =
-          ap₂ bitOr split split-half ∙ or-block 2 w (w / 2) (u % 4) (u / 2 % 4) (omega arith) (omega arith)
+    ap₂ bitOr split split-half ∙ or-block 2 w (w / 2) (u % 4) (u / 2 % 4) (omega arith) (omega arith)
     in
     let mask : lows (suc n) ≡ lows n * 2 ^ 2 + 1 = omega arith in
     let masked : bitAnd (bitOr u (u / 2)) (lows (suc n)) ≡ bitAnd (bitOr w (w / 2)) (lows n) * 2 ^ 2 + nonzero (u % 4) =
-          ap₂ bitAnd merged mask
-          ∙ and-block 2 (bitOr w (w / 2)) (lows n) (bitOr (u % 4) (u / 2 % 4)) 1 (or-lt 2 (u % 4) (u / 2 % 4) (omega arith) (omega arith)) (omega arith)
-          ∙ ap (λ x. bitAnd (bitOr w (w / 2)) (lows n) * 2 ^ 2 + x) (folded-first u)
+    ap₂ bitAnd merged mask
+    ∙ and-block 2 (bitOr w (w / 2)) (lows n) (bitOr (u % 4) (u / 2 % 4)) 1 (or-lt 2 (u % 4) (u / 2 % 4) (omega arith) (omega arith)) (omega arith)
+    ∙ ap (λ x. bitAnd (bitOr w (w / 2)) (lows n) * 2 ^ 2 + x) (folded-first u)
     in
     ap ones masked ∙ ones-cat 2 (bitAnd (bitOr w (w / 2)) (lows n)) (nonzero (u % 4)) (bit-below (eqb (u % 4) 0))
     ∙ ap₂ (λ x y. x + y) (folded-weight n w) (ones-bit (eqb (u % 4) 0))

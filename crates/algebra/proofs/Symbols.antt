@@ -19,6 +19,7 @@ below-at (suc n) p t i h = here (below-at n p (parts .1)) (cases-lt i n)
   where
     parts : (p n ≡ true) × (below n p ≡ true)
     parts = and-parts (p n) (below n p) t
+
     here : ((j : ℕ) → j < n → p j ≡ true) → (i < n) ⊎ (n ≤ i) → p i ≡ true
     here rest (inl k) = rest i k
     here rest (inr k) = ap p (omega arith) ∙ parts .0
@@ -61,7 +62,7 @@ module _ (q : ℕ) (sum : ℕ → ℕ → ℕ) (opposite : ℕ → ℕ) (product
 
     -- a law of two numbers, shown where both are symbols and where the operation answers 0
     by-cases : (P : ℕ → ℕ → Type 0) → ((s t : ℕ) → s < q → t < q → P s t) → ((s t : ℕ) → q ≤ s → P s t) → ((s t : ℕ) → q ≤ t → P s t)
-             → (s t : ℕ) → P s t
+        → (s t : ℕ) → P s t
     by-cases P in-both out-left out-right s t = go (cases-lt s q) (cases-lt t q)
       where
         go : (s < q) ⊎ (q ≤ s) → (t < q) ⊎ (q ≤ t) → P s t
@@ -99,34 +100,34 @@ module _ (q : ℕ) (sum : ℕ → ℕ → ℕ) (opposite : ℕ → ℕ) (product
       least = least;
       most = most;
       sum-symbol =
-        by-cases (λ s t. S .sum s t < q) (λ s t h k. omega (arith, sum-in s t h k, sum-raw s t h k))
-        (λ s t h. omega (arith, outside-left s t (sum s t) h)) (λ s t h. omega (arith, outside-right s t (sum s t) h));
+          by-cases (λ s t. S .sum s t < q) (λ s t h k. omega (arith, sum-in s t h k, sum-raw s t h k))
+          (λ s t h. omega (arith, outside-left s t (sum s t) h)) (λ s t h. omega (arith, outside-right s t (sum s t) h));
       opposite-symbol = λ s. below-opposite s (cases-lt s q);
       product-symbol =
-        by-cases (λ s t. S .product s t < q) (λ s t h k. omega (arith, product-in s t h k, product-raw s t h k))
-        (λ s t h. omega (arith, outside-left s t (product s t) h)) (λ s t h. omega (arith, outside-right s t (product s t) h));
+          by-cases (λ s t. S .product s t < q) (λ s t h k. omega (arith, product-in s t h k, product-raw s t h k))
+          (λ s t h. omega (arith, outside-left s t (product s t) h)) (λ s t h. omega (arith, outside-right s t (product s t) h));
       commutes =
-        by-cases (λ s t. S .sum s t ≡ S .sum t s)
-        (λ s t h k. sum-in s t h k ∙ eqb-true _ _ (and-parts _ _ (and-parts _ _ (at-two s t h k .0) .1) .0) ∙ sym (sum-in t s k h))
-        (λ s t h. outside-left s t (sum s t) h ∙ sym (outside-right t s (sum t s) h))
-        (λ s t h. outside-right s t (sum s t) h ∙ sym (outside-left t s (sum t s) h));
+          by-cases (λ s t. S .sum s t ≡ S .sum t s)
+          (λ s t h k. sum-in s t h k ∙ eqb-true _ _ (and-parts _ _ (and-parts _ _ (at-two s t h k .0) .1) .0) ∙ sym (sum-in t s k h))
+          (λ s t h. outside-left s t (sum s t) h ∙ sym (outside-right t s (sum t s) h))
+          (λ s t h. outside-right s t (sum s t) h ∙ sym (outside-left t s (sum t s) h));
       associates = λ s t u h k l.
-        ap (λ x. S .sum x u) (sum-in s t h k) ∙ sum-in (sum s t) u (sum-raw s t h k) l
-        ∙ eqb-true _ _ (and-parts _ _ (at-three s t u h k l) .0)
-        ∙ sym (ap (λ x. S .sum s x) (sum-in t u k l) ∙ sum-in s (sum t u) h (sum-raw t u k l));
+          ap (λ x. S .sum x u) (sum-in s t h k) ∙ sum-in (sum s t) u (sum-raw s t h k) l
+          ∙ eqb-true _ _ (and-parts _ _ (at-three s t u h k l) .0)
+          ∙ sym (ap (λ x. S .sum s x) (sum-in t u k l) ∙ sum-in s (sum t u) h (sum-raw t u k l));
       zero-adds-nothing = λ s h.
-        sum-in 0 s (omega arith) h ∙ eqb-true _ _ (and-parts _ _ (and-parts _ _ (at-one s h .0) .1) .0);
+          sum-in 0 s (omega arith) h ∙ eqb-true _ _ (and-parts _ _ (and-parts _ _ (at-one s h .0) .1) .0);
       opposite-cancels = λ s h.
-        ap (λ x. S .sum s x) (opposite-in s h) ∙ sum-in s (opposite s) h (opposite-raw s h)
-        ∙ eqb-true _ _ (and-parts (eqb (sum 0 s) s) _ (and-parts (ltb (opposite s) q) _ (at-one s h .0) .1) .1);
+          ap (λ x. S .sum s x) (opposite-in s h) ∙ sum-in s (opposite s) h (opposite-raw s h)
+          ∙ eqb-true _ _ (and-parts (eqb (sum 0 s) s) _ (and-parts (ltb (opposite s) q) _ (at-one s h .0) .1) .1);
       distributes = λ s t u h k l.
-        ap (λ x. S .product x u) (sum-in s t h k) ∙ product-in (sum s t) u (sum-raw s t h k) l
-        ∙ eqb-true _ _ (and-parts _ _ (at-three s t u h k l) .1)
-        ∙ sym (ap₂ (λ x y. S .sum x y) (product-in s u h l) (product-in t u k l) ∙ sum-in (product s u) (product t u) (product-raw s u h l) (product-raw t u k l));
+          ap (λ x. S .product x u) (sum-in s t h k) ∙ product-in (sum s t) u (sum-raw s t h k) l
+          ∙ eqb-true _ _ (and-parts _ _ (at-three s t u h k l) .1)
+          ∙ sym (ap₂ (λ x y. S .sum x y) (product-in s u h l) (product-in t u k l) ∙ sum-in (product s u) (product t u) (product-raw s u h l) (product-raw t u k l));
       sum-at-most =
-        by-cases (λ s t. S .sum s t ≤ s + t)
-        (λ s t h k. omega (arith, sum-in s t h k, most-raw s t h k))
-        (λ s t h. omega (arith, outside-left s t (sum s t) h)) (λ s t h. omega (arith, outside-right s t (sum s t) h));
+          by-cases (λ s t. S .sum s t ≤ s + t)
+          (λ s t h k. omega (arith, sum-in s t h k, most-raw s t h k))
+          (λ s t h. omega (arith, outside-left s t (sum s t) h)) (λ s t h. omega (arith, outside-right s t (sum s t) h));
       sum-outside-left = λ s t h. outside-left s t (sum s t) h;
       sum-outside-right = λ s t h. outside-right s t (sum s t) h;
       opposite-outside = opposite-out;

@@ -22,7 +22,7 @@ use Rattle.checkfile.specs.declared.kind.Kind.the-variants.{Plain, Weight, Cos
 use Rattle.checkfile.specs.Layout.{Content, Sound, CostsOf, kindByte, isKind, kindOf, costsUnder, twoBytes, field, costField, layout}
 use Rattle.checkfile.specs.Tests.{Test, test, firstRefusal, sizesFit, byte, pair, fieldTests, countTests, sizeTests, symbolTests, checkTests, ruleTests, priceTests, costTests, endTests, tailTests, countAt, placesAt, rowsAt, ruleOffset, ruleAt, costOffset, tests}
 use Rattle.checkfile.specs.Contents.{contentAt}
-use Rattle.checkfile.proofs.Tests.{first-later, field-passes, value-passes, contents-byte, symbols-pass, costs-pass, contents-pair}
+use Rattle.checkfile.proofs.FirstRefusal.{first-later, field-passes, value-passes, contents-byte, symbols-pass, costs-pass, contents-pair}
 
 -- the first of tests that are passed, and those behind it
 test-passed : (b : Bool) (e : Refusal) (ts : List Test) → firstRefusal (test b e ∷ ts) ≡ None → (b ≡ true) × (firstRefusal ts ≡ None)

@@ -1,4 +1,4 @@
-pub mod Tests
+pub mod FirstRefusal
 pub mod Padded
 pub mod Limits
 pub mod Layouts

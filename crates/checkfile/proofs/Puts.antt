@@ -16,7 +16,7 @@ use Rattle.checkfile.specs.Layout.{Put, field, layout, costField, costsUnder, 
 pub puts : (xs ys : List ℕ) (at next end : ℕ) (before between after : List ℕ) → Put xs at before between next → Put ys next between after end → Put (xs ++ ys) at before after end
 puts xs ys at next end before between after p r =
     let further : (zs : List ℕ) → drop (end - next) (drop next zs) ≡ drop end zs = λ zs.
-          drop-drop (end - next) next zs ∙ ap (λ k. drop k zs) (let e : next + (end - next) ≡ end = omega (arith, r .moves-on) in e)
+    drop-drop (end - next) next zs ∙ ap (λ k. drop k zs) (let e : next + (end - next) ≡ end = omega (arith, r .moves-on) in e)
     in
     record {
       moves-on = omega (arith, p .moves-on, r .moves-on, length-append xs ys);
@@ -62,8 +62,8 @@ dear-costs-long rule e =
 
 -- the parts of a file, and its length
 pub layout-parts : (code : Code) (rule : FileRule)
-                 → (((field 1 (code .q ∷ []) ++ field 2 (code .n ∷ (code .r ∷ []))) ++ field 3 (take (code .n * code .r) (code .checks))) ++ (field 4 (kindByte (rule .kind) ∷ []) ++ ruleCosts rule))
-                 ≡ layout (contentOf code rule)
+    → (((field 1 (code .q ∷ []) ++ field 2 (code .n ∷ (code .r ∷ []))) ++ field 3 (take (code .n * code .r) (code .checks))) ++ (field 4 (kindByte (rule .kind) ∷ []) ++ ruleCosts rule))
+    ≡ layout (contentOf code rule)
 layout-parts code rule = simp append-assoc
 
 pub layout-long : (code : Code) (rule : FileRule) → length (layout (contentOf code rule)) ≡ 16 + code .n * code .r + length (ruleCosts rule)

@@ -16,7 +16,7 @@ use Rattle.checkfile.specs.Contents.{contentOf, contentAt, blankContent, Read}
 use Rattle.checkfile.specs.Layout.{Content, Sound, layout, costsUnder}
 use Rattle.checkfile.specs.Tests.{Said, CostBytes, CostBytesAt, firstRefusal, tests, pair, placesAt, costOffset}
 use Rattle.checkfile.proofs.Layouts.{accepted, layouts-accepted}
-use Rattle.checkfile.proofs.Tests.{contents-pair}
+use Rattle.checkfile.proofs.FirstRefusal.{contents-pair}
 
 content-same : (c d : Content) → c .q ≡ d .q → c .n ≡ d .n → c .r ≡ d .r → c .checks ≡ d .checks → c .kind ≡ d .kind → c .costs ≡ d .costs → c ≡ d
 content-same c d q n r checks kind costs = λ i. record { q = q i; n = n i; r = r i; checks = checks i; kind = kind i; costs = costs i }
@@ -37,12 +37,12 @@ at-cost file at n Cost bytes h e = h
 
 -- the costs are the file's, where there are any
 file-costs : (file : List ℕ) (at n : ℕ) (bytes : List ℕ) → CostBytesAt file at n bytes
-           → map (λ k. pair bytes (2 * k)) (counting 0 n) ≡ map (λ k. pair file (at + 3 + 2 * k)) (counting 0 n)
+    → map (λ k. pair bytes (2 * k)) (counting 0 n) ≡ map (λ k. pair file (at + 3 + 2 * k)) (counting 0 n)
 file-costs file at n bytes h = same-maps _ _ n (λ k l. contents-pair file bytes at n k (h .part) l)
 
 module _ (file : List ℕ) (q n r : ℕ) (checks : List ℕ) (kind : Kind) (costs : List ℕ) (said : Said file q n r checks kind costs) (code : Code) (rule : FileRule)
-         (made : (code .q ≡ q) × (code .n ≡ n) × (code .r ≡ r) × (take (n * r) (code .checks) ≡ checks))
-         (ruled : (rule .kind ≡ kind) × (rule .n ≡ n) × (kind ≡ Cost → take n (rule .costs) ≡ map (λ k. pair costs (2 * k)) (counting 0 n))) where
+    (made : (code .q ≡ q) × (code .n ≡ n) × (code .r ≡ r) × (take (n * r) (code .checks) ≡ checks))
+    (ruled : (rule .kind ≡ kind) × (rule .n ≡ n) × (kind ≡ Cost → take n (rule .costs) ≡ map (λ k. pair costs (2 * k)) (counting 0 n))) where
   pub read-content : contentOf code rule ≡ contentAt file
   read-content =
       content-same (contentOf code rule) (contentAt file) (made .0 ∙ said .count) (made .1 ∙ said .places) (made .2 ∙ said .rows)
@@ -65,9 +65,9 @@ module _ (file : List ℕ) (q n r : ℕ) (checks : List ℕ) (kind : Kind) (cost
       }
 
 pub read-refused : (file : List ℕ) (refusal : Refusal) (code : Code) (rule : FileRule) → firstRefusal (tests file) ≡ Some refusal
-                 → (code .q ≡ 2) × (code .n ≡ 1) × (code .r ≡ 1) × (take 1 (code .checks) ≡ 0 ∷ [])
-                 → (rule .kind ≡ Plain) × (rule .n ≡ 1)
-                 → Read file code rule (Some refusal)
+    → (code .q ≡ 2) × (code .n ≡ 1) × (code .r ≡ 1) × (take 1 (code .checks) ≡ 0 ∷ [])
+    → (rule .kind ≡ Plain) × (rule .n ≡ 1)
+    → Read file code rule (Some refusal)
 read-refused file refusal code rule failed made ruled = record {
   first-failing-test = sym failed;
   accepted-is-a-layout = λ h. absurd (not-none h);
@@ -76,10 +76,11 @@ read-refused file refusal code rule failed made ruled = record {
   every-layout-is-accepted = λ c sound e. absurd (not-none (sym failed ∙ ap (λ f. firstRefusal (tests f)) e ∙ layouts-accepted c sound .0));
   refused-is-blank = λ e h. (
     content-same (contentOf code rule) blankContent (made .0) (made .1) (made .2)
-    (ap₂ (λ a b. take (a * b) (code .checks)) (made .1) (made .2) ∙ made .3)
-    (ruled .0)
-    (ap (λ k. costsUnder k (take (rule .n) (rule .costs))) (ruled .0)),
-    ruled .1);
+        (ap₂ (λ a b. take (a * b) (code .checks)) (made .1) (made .2) ∙ made .3)
+        (ruled .0)
+        (ap (λ k. costsUnder k (take (rule .n) (rule .costs))) (ruled .0)),
+    ruled .1,
+  );
 }
   where
     not-none : Some refusal ≡ None → ⊥

@@ -29,6 +29,7 @@ sound-costs Cost n costs room limit = (long, λ k. at k (cases-lt k n))
   where
     long : length (take n costs) ≡ n
     long = length-take-le n costs room
+
     at : (k : ℕ) → (k < n) ⊎ (n ≤ k) → getD (take n costs) k 0 ≤ 1000
     at k (inl h) = omega (arith, getD-take n costs k 0 h, limit k)
     at k (inr h) = omega (arith, getD-past (take n costs) k 0 (omega (arith, long)))
@@ -48,14 +49,15 @@ module _ (code : Code) (rule : FileRule) (same : rule .n ≡ code .n) where
         table = length-take-le size checks (omega (arith, code .long, code .room));
         symbols = λ k h. omega (arith, getD-take size checks k 0 h, code .symbols k h);
         costs = subst (λ n. CostsOf (rule .kind) n (costsUnder (rule .kind) (take (rule .n) (rule .costs)))) same
-                (sound-costs (rule .kind) (rule .n) (rule .costs) (omega (arith, rule .long, rule .places .1)) (rule .affordable));
+            (sound-costs (rule .kind) (rule .n) (rule .costs) (omega (arith, rule .long, rule .places .1)) (rule .affordable));
       }
 
   pub no-room : (before : List ℕ) → length before < length (layout (contentOf code rule)) → (Err FileTooShort ≡ writeAnswer code rule (length before)) × (before ≡ bufferAfter code rule before)
   no-room before h =
-      let short = lt-leb (length (layout (contentOf code rule))) (length before) h in
-      (sym (cond-true (eqb (rule .n) (code .n)) _ _ (eq-eqb (rule .n) (code .n) same) ∙ cond-false (leb (length (layout (contentOf code rule))) (length before)) _ _ short),
-      sym (cond-false (eqb (rule .n) (code .n) && leb (length (layout (contentOf code rule))) (length before)) _ _ (and-right (eqb (rule .n) (code .n)) _ short)))
+      let short = lt-leb (length (layout (contentOf code rule))) (length before) h in (
+        sym (cond-true (eqb (rule .n) (code .n)) _ _ (eq-eqb (rule .n) (code .n) same) ∙ cond-false (leb (length (layout (contentOf code rule))) (length before)) _ _ short),
+        sym (cond-false (eqb (rule .n) (code .n) && leb (length (layout (contentOf code rule))) (length before)) _ _ (and-right (eqb (rule .n) (code .n)) _ short)),
+      )
 
   module _ (before after : List ℕ) (next : ℕ) (room : length (layout (contentOf code rule)) ≤ length before) (put : Put (layout (contentOf code rule)) 0 before after next) where
     long : next ≡ length (layout (contentOf code rule))

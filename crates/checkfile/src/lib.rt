@@ -4,4 +4,6 @@ mod fields;
 pub mod kind;
 pub mod reading;
 pub mod rule;
+#[cfg(test)]
+mod tests;
 pub mod writing;

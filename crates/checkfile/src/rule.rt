@@ -91,10 +91,6 @@ impl FileRule {
     pub fn cost(&self, place: usize) -> u16
         ensures { λ r. ⌜ r ≡ getD (now (self .entry) .costs) place 0 ⌝ }
     {
-        if place < self.n {
-            self.costs[place]
-        } else {
-            0
-        }
+        if place < self.n { self.costs[place] } else { 0 }
     }
 }

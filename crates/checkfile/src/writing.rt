@@ -27,11 +27,7 @@ fn put_field(buffer: &mut [u8], at: usize, tag: u8, contents: &[u8]) -> usize
     ensures { λ next. ⌜ Put (field tag (now (contents .entry))) at (now (buffer .entry)) (now (buffer .exit)) next ⌝ }
 {
     let size = contents.len();
-    let next = put(
-        buffer,
-        at,
-        &[tag, (size / 256) as u8, (size % 256) as u8],
-    );
+    let next = put(buffer, at, &[tag, (size / 256) as u8, (size % 256) as u8]);
     put(buffer, next, contents)
 }
 

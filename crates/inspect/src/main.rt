@@ -88,13 +88,7 @@ fn inspect_lines<A: Alphabet>(
     input: &[u8],
 ) -> Result<(), AnyError> {
     for (line, characters) in Lines::new(input).enumerate().take(MOST_LINES) {
-        rt.println(inspect_line(
-            rt.alloc(),
-            alphabet,
-            code,
-            line + 1,
-            characters,
-        )?)?;
+        rt.println(inspect_line(rt.alloc(), alphabet, code, line + 1, characters)?)?;
     }
     Ok(())
 }

@@ -121,7 +121,10 @@ mod tests {
     #[test]
     fn no_more_lines_are_read_than_wanted(rt: LibcRuntime) -> Result<(), Fail> {
         let mut reader: &[u8] = b"a\n\nb\nc";
-        check_eq(first_lines(rt.alloc(), &mut reader, 3)?.as_slice(), b"a\n\nb\n")?;
+        check_eq(
+            first_lines(rt.alloc(), &mut reader, 3)?.as_slice(),
+            b"a\n\nb\n",
+        )?;
         check_eq(first_lines(rt.alloc(), &mut reader, 3)?.as_slice(), b"c")
     }
 

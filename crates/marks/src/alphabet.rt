@@ -26,21 +26,21 @@ pub trait Alphabet {
         ensures { λ r. ⌜ r ≡ symbols .product s h ⌝ };
 }
 
-fn sum_modulo(q: u8, s: u8, t: u8) -> u8
+pub(crate) fn sum_modulo(q: u8, s: u8, t: u8) -> u8
     requires { ⌜ 2 ≤ q ⌝ ∗ ⌜ q ≤ 4 ⌝ }
     ensures { λ r. ⌜ r ≡ modulo q .sum s t ⌝ }
 {
     if s < q && t < q { (s + t) % q } else { 0 }
 }
 
-fn opposite_modulo(q: u8, s: u8) -> u8
+pub(crate) fn opposite_modulo(q: u8, s: u8) -> u8
     requires { ⌜ 2 ≤ q ⌝ ∗ ⌜ q ≤ 4 ⌝ }
     ensures { λ r. ⌜ r ≡ modulo q .opposite s ⌝ }
 {
     if s < q { (q - s) % q } else { 0 }
 }
 
-fn product_modulo(q: u8, s: u8, h: u8) -> u8
+pub(crate) fn product_modulo(q: u8, s: u8, h: u8) -> u8
     requires { ⌜ 2 ≤ q ⌝ ∗ ⌜ q ≤ 4 ⌝ }
     ensures { λ r. ⌜ r ≡ modulo q .product s h ⌝ }
 {

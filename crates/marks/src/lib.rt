@@ -2,3 +2,5 @@
 pub mod alphabet;
 pub mod mark;
 pub mod refusal;
+#[cfg(test)]
+mod tests;

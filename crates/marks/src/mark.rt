@@ -1,8 +1,8 @@
 // A mark packed into 64 bits, two bits a place, the first place lowest. Places count from 0 here, and from 1 in a refusal.
 ghost use mathlib.Core.Path.{_≡_};
-ghost use mathlib.Core.List.{List};
 ghost use Prim.Native.Nat.{ℕ, _*_, _%_, _^_, _<_, _≤_, min};
 ghost use lib.ListN.{length, getD};
+ghost use Rattle.std.specs.Vec.{made};
 ghost use Rattle.algebra.specs.Digits.{digit};
 ghost use Rattle.algebra.specs.Marks.{numberOf, bytesOf, put, blank as blanked, plus as sumOf, minus as differenceOf, weight as weightOf};
 ghost use Rattle.marks.specs.Reading.{firstOutside, reading};
@@ -53,7 +53,8 @@ fn pack(bytes: &[u8]) -> u64
 impl Mark {
     // The mark of n places that the bytes spell, one symbol each.
     pub fn read<A: Alphabet>(alphabet: &A, n: usize, bytes: &[u8]) -> Result<Mark, Refusal>
-        ensures { λ r. ⌜ r ≡ reading symbols n (now (bytes .entry)) ⌝ }
+        ensures value { λ r. ⌜ r ≡ reading symbols n (now (bytes .entry)) ⌝ }
+        ensures back { λ r. ⌜ made r (λ mark. bytesOf n (mark .number) ≡ now (bytes .entry)) ⌝ }
     {
         if bytes.len() != n || n > PLACES {
             return Err(Refusal::MarkLength);
@@ -69,7 +70,8 @@ impl Mark {
 
     // Writes the symbols of the first places, as many as the buffer has bytes.
     pub fn write(self, buffer: &mut [u8])
-        ensures { λ _. ⌜ now (buffer .exit) ≡ bytesOf (length (now (buffer .entry))) (self .number) ⌝ }
+        ensures after { λ _. ⌜ now (buffer .exit) ≡ bytesOf (length (now (buffer .entry))) (self .number) ⌝ }
+        ensures back { λ _. ⌜ (self .number < 4 ^ length (now (buffer .entry)) → numberOf (now (buffer .exit)) ≡ self .number) ⌝ }
     {
         for (i, byte) in buffer.iter_mut().enumerate() {
             *byte = self.symbol(i);

@@ -17,11 +17,12 @@ loop-k-again c =
     let rule = c .args .rule .now in
     let bytes = c .loop-k .bytes in
     let k = c .loop-k .k in
-    let cost = getD (rule .costs) k 0 in
-    (length-set (set bytes (2 * k) (cost / 256)) (2 * k + 1) (cost % 256) ∙ length-set bytes (2 * k) (cost / 256) ∙ c .loop-k .inv .0,
-    two-more bytes k (cost / 256) (cost % 256) (omega (arith, rule .places .1))
-    ∙ ap (λ zs. zs ++ twoBytes cost) (c .loop-k .inv .1)
-    ∙ sym (costs-more (rule .costs) k (omega (arith, rule .places .1, rule .long))))
+    let cost = getD (rule .costs) k 0 in (
+      length-set (set bytes (2 * k) (cost / 256)) (2 * k + 1) (cost % 256) ∙ length-set bytes (2 * k) (cost / 256) ∙ c .loop-k .inv .0,
+      two-more bytes k (cost / 256) (cost % 256) (omega (arith, rule .places .1))
+          ∙ ap (λ zs. zs ++ twoBytes cost) (c .loop-k .inv .1)
+          ∙ sym (costs-more (rule .costs) k (omega (arith, rule .places .1, rule .long))),
+    )
 
 pub returns : need.returns
 returns c =
@@ -30,6 +31,6 @@ returns c =
     record {
       len = c .loop-k .inv .0;
       front =
-        ap (λ k. take (2 * k) (c .loop-k .bytes)) (let same : rule .n ≡ c .loop-k .k = omega arith in same)
-        ∙ c .loop-k .inv .1 ∙ ap (joined twoBytes) e;
+          ap (λ k. take (2 * k) (c .loop-k .bytes)) (let same : rule .n ≡ c .loop-k .k = omega arith in same)
+          ∙ c .loop-k .inv .1 ∙ ap (joined twoBytes) e;
     }

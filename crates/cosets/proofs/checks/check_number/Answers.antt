@@ -24,10 +24,11 @@ index-sums-j g c = omega (arith, rows (c .args .code .now))
 
 pub loop-j-again : need.loop-j-again
 loop-j-again g c =
-    let values = checkValue (g .A·Alphabet .symbols) (checksOf (c .args .code .now)) (c .args .mark .number) in
-    (length-set (c .loop-j .sums) (c .loop-j .j) (c .check-value .result) ∙ c .loop-j .inv .0,
-    λ k h. ap (λ v. getD (set (c .loop-j .sums) (c .loop-j .j) v) k 0) (c .check-value .ensures)
-    ∙ fill-by-more values (c .loop-j .sums) (c .loop-j .j) 0 (omega (arith, rows (c .args .code .now), c .loop-j .inv .0)) (c .loop-j .inv .1) k h)
+    let values = checkValue (g .A·Alphabet .symbols) (checksOf (c .args .code .now)) (c .args .mark .number) in (
+      length-set (c .loop-j .sums) (c .loop-j .j) (c .check-value .result) ∙ c .loop-j .inv .0,
+      λ k h. ap (λ v. getD (set (c .loop-j .sums) (c .loop-j .j) v) k 0) (c .check-value .ensures)
+          ∙ fill-by-more values (c .loop-j .sums) (c .loop-j .j) 0 (omega (arith, rows (c .args .code .now), c .loop-j .inv .0)) (c .loop-j .inv .1) k h,
+    )
 
 pub part-number-of-end : need.part-number-of-end
 part-number-of-end g c =

@@ -26,9 +26,10 @@ bound c =
     let digit : ℕ → ℕ = λ j. getD (c .args .sums .now) j 0 in
     let k = c .loop-sum .sum-index in
     omega (
-        arith,
-        next (c .args .q) digit k (c .loop-sum .number) (c .loop-sum .power) (c .from .result) (c .loop-sum .inv .0) (c .loop-sum .inv .1) (c .from .ensures),
-        below (c .args .q) digit (k + 1) (c .pre .base) (omega (arith, c .pre .short)) (λ j h. c .pre .digits j (omega arith)))
+      arith,
+      next (c .args .q) digit k (c .loop-sum .number) (c .loop-sum .power) (c .from .result) (c .loop-sum .inv .0) (c .loop-sum .inv .1) (c .from .ensures),
+      below (c .args .q) digit (k + 1) (c .pre .base) (omega (arith, c .pre .short)) (λ j h. c .pre .digits j (omega arith)),
+    )
 
 pub loop-sum-holds : need.loop-sum-holds
 loop-sum-holds c = (sym (pack-none (c .args .q) _), sym (pow-zero (c .args .q)))
@@ -47,6 +48,7 @@ mul-power c =
 
 pub loop-sum-again : need.loop-sum-again
 loop-sum-again c =
-    let k = c .loop-sum .sum-index in
-    (next (c .args .q) (λ j. getD (c .args .sums .now) j 0) k (c .loop-sum .number) (c .loop-sum .power) (c .from .result) (c .loop-sum .inv .0) (c .loop-sum .inv .1) (c .from .ensures),
-    ap (λ b. c .loop-sum .power * b) (c .from-power .ensures) ∙ power-next (c .args .q) k (c .loop-sum .power) (c .loop-sum .inv .1))
+    let k = c .loop-sum .sum-index in (
+      next (c .args .q) (λ j. getD (c .args .sums .now) j 0) k (c .loop-sum .number) (c .loop-sum .power) (c .from .result) (c .loop-sum .inv .0) (c .loop-sum .inv .1) (c .from .ensures),
+      ap (λ b. c .loop-sum .power * b) (c .from-power .ensures) ∙ power-next (c .args .q) k (c .loop-sum .power) (c .loop-sum .inv .1),
+    )

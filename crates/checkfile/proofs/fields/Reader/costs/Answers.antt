@@ -5,7 +5,7 @@ use Rattle.std.specs.declared.option.Option.the-variants.{Some}
 use Rattle.std.proofs.shelf.Results.{err-from-errBy}
 use Rattle.marks.specs.declared.refusal.Refusal.the-variants.{CostInFile}
 use Rattle.checkfile.specs.Tests.{fieldTests}
-use Rattle.checkfile.proofs.Tests.{first-here, cost-fails, costs-pass}
+use Rattle.checkfile.proofs.FirstRefusal.{first-here, cost-fails, costs-pass}
 use Rattle.checkfile.proofs.fields.Reader.costs.Needs as need
 
 pub returns-in-Break-field : need.returns-in-Break-field
@@ -22,9 +22,9 @@ returns-then-pair-at-gt1000 c =
     record {
       file = c .field .ensures .file;
       judged =
-        cost-fails (c .args .self .now .file .now) (c .in-Continue-field .field .contents .now) (c .args .self .now .offset) (c .args .n) (f .1 .1) (f .0)
-        (c .loop-k .k) (c .loop-k-test .taken) (c .loop-k .inv) (omega arith)
-        ∙ ap (λ at. Some (CostInFile (at + 2 * c .loop-k .k))) (sym (f .1 .0));
+          cost-fails (c .args .self .now .file .now) (c .in-Continue-field .field .contents .now) (c .args .self .now .offset) (c .args .n) (f .1 .1) (f .0)
+          (c .loop-k .k) (c .loop-k-test .taken) (c .loop-k .inv) (omega arith)
+          ∙ ap (λ at. Some (CostInFile (at + 2 * c .loop-k .k))) (sym (f .1 .0));
     }
 
 pub returns : need.returns
@@ -34,6 +34,7 @@ returns c =
       file = c .field .ensures .file;
       judged = (
         costs-pass (c .args .self .now .file .now) (c .in-Continue-field .field .contents .now) (c .args .self .now .offset) (c .args .n) (f .1 .1) (f .0)
-        (λ j h. c .loop-k .inv j (omega arith)),
-        (f .1 .1, f .1 .2, f .1 .3, λ j h. c .loop-k .inv j (omega arith)));
+            (λ j h. c .loop-k .inv j (omega arith)),
+        (f .1 .1, f .1 .2, f .1 .3, λ j h. c .loop-k .inv j (omega arith)),
+      );
     }

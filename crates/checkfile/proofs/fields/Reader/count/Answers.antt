@@ -10,7 +10,7 @@ use Rattle.std.proofs.shelf.Results.{err-from-errBy}
 use Rattle.std.proofs.shelf.Ways.{tells}
 use Rattle.marks.specs.declared.refusal.Refusal.the-variants.{SymbolCount}
 use Rattle.checkfile.specs.Tests.{byte, test, fieldTests}
-use Rattle.checkfile.proofs.Tests.{first-here, value-fails, value-passes, first-byte}
+use Rattle.checkfile.proofs.FirstRefusal.{first-here, value-fails, value-passes, first-byte}
 use Rattle.checkfile.proofs.fields.Reader.count.Needs as need
 
 pub returns-in-Break-field : need.returns-in-Break-field

@@ -7,7 +7,7 @@ use borrow.Author.Tests.{ltb-true, ltb-false}
 use lib.ListN.{length, getD, take, drop}
 use Rattle.std.proofs.shelf.Lists.{take-rest, drop-drop, length-drop, length-take-le}
 use Rattle.checkfile.specs.Tests.{byte, pair}
-use Rattle.checkfile.proofs.Tests.{head-fails, tag-fails, length-fails, contents-fail, field-passes}
+use Rattle.checkfile.proofs.FirstRefusal.{head-fails, tag-fails, length-fails, contents-fail, field-passes}
 use Rattle.checkfile.proofs.fields.Reader.field.Needs as need
 
 -- the head's bytes, read from the rest of the file, are the file's
@@ -39,8 +39,8 @@ returns-then-found-tag c =
     record {
       file = refl;
       judged =
-        tag-fails file at (c .args .tag) (c .args .size) (omega (arith, ltb-false))
-        (λ e. c .if-found-tag .taken (first file (c .rest .result .now) at (c .rest .ensures .places) ∙ e));
+          tag-fails file at (c .args .tag) (c .args .size) (omega (arith, ltb-false))
+          (λ e. c .if-found-tag .taken (first file (c .rest .result .now) at (c .rest .ensures .places) ∙ e));
     }
 
 pub returns-then-from-size : need.returns-then-from-size
@@ -51,9 +51,9 @@ returns-then-from-size c =
     record {
       file = refl;
       judged =
-        length-fails file at (c .args .tag) (c .args .size) (omega (arith, ltb-false))
-        (sym (first file rest at (c .rest .ensures .places)) ∙ c .if-found-tag .left)
-        (λ e. c .if-from-size .taken (omega (arith, second file rest at (c .rest .ensures .places))));
+          length-fails file at (c .args .tag) (c .args .size) (omega (arith, ltb-false))
+          (sym (first file rest at (c .rest .ensures .places)) ∙ c .if-found-tag .left)
+          (λ e. c .if-from-size .taken (omega (arith, second file rest at (c .rest .ensures .places))));
     }
 
 pub returns-then-rest-size : need.returns-then-rest-size
@@ -64,10 +64,10 @@ returns-then-rest-size c =
     record {
       file = refl;
       judged =
-        contents-fail file at (c .args .tag) (c .args .size) (omega (arith, ltb-false))
-        (sym (first file rest at (c .rest .ensures .places)) ∙ c .if-found-tag .left)
-        (omega (arith, second file rest at (c .rest .ensures .places)))
-        (omega (arith, ltb-false, ap length (take-rest rest 3), length-drop 3 rest));
+          contents-fail file at (c .args .tag) (c .args .size) (omega (arith, ltb-false))
+          (sym (first file rest at (c .rest .ensures .places)) ∙ c .if-found-tag .left)
+          (omega (arith, second file rest at (c .rest .ensures .places)))
+          (omega (arith, ltb-false, ap length (take-rest rest 3), length-drop 3 rest));
     }
 
 pub ghost-self : need.ghost-self
@@ -83,11 +83,14 @@ returns c =
       file = refl;
       judged = (
         field-passes file at (c .args .tag) (c .args .size) (omega (arith, ltb-false))
-        (sym (first file rest at (c .rest .ensures .places)) ∙ c .if-found-tag .left)
-        (omega (arith, second file rest at (c .rest .ensures .places)))
-        (omega (arith, ltb-false)),
-        (refl,
-        part file rest at (c .args .size) (c .rest .ensures .value),
-        (let whole : c .args .size - 0 ≡ c .args .size = omega arith in length-take-le (c .args .size - 0) (take (length rest - 3) (drop 3 rest)) (omega arith) ∙ whole),
-        refl));
+            (sym (first file rest at (c .rest .ensures .places)) ∙ c .if-found-tag .left)
+            (omega (arith, second file rest at (c .rest .ensures .places)))
+            (omega (arith, ltb-false)),
+        (
+          refl,
+          part file rest at (c .args .size) (c .rest .ensures .value),
+          (let whole : c .args .size - 0 ≡ c .args .size = omega arith in length-take-le (c .args .size - 0) (take (length rest - 3) (drop 3 rest)) (omega arith) ∙ whole),
+          refl,
+        ),
+      );
     }

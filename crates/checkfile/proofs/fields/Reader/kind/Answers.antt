@@ -7,7 +7,7 @@ use Rattle.std.proofs.shelf.Results.{err-from-errBy}
 use Rattle.marks.specs.declared.refusal.Refusal.the-variants.{RuleByte}
 use Rattle.checkfile.specs.Layout.{isKind, kindOf}
 use Rattle.checkfile.specs.Tests.{byte, fieldTests}
-use Rattle.checkfile.proofs.Tests.{first-here, value-fails, value-passes, first-byte}
+use Rattle.checkfile.proofs.FirstRefusal.{first-here, value-fails, value-passes, first-byte}
 use Rattle.checkfile.proofs.fields.Reader.kind.Needs as need
 
 pub returns-in-Break-field : need.returns-in-Break-field

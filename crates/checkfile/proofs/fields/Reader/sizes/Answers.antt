@@ -7,7 +7,7 @@ use Rattle.std.specs.declared.option.Option.the-variants.{Some}
 use Rattle.std.proofs.shelf.Results.{err-from-errBy}
 use Rattle.marks.specs.declared.refusal.Refusal.the-variants.{Size}
 use Rattle.checkfile.specs.Tests.{byte, fieldTests, sizesFit}
-use Rattle.checkfile.proofs.Tests.{first-here, value-fails, value-passes, first-byte, second-byte, sizes-within}
+use Rattle.checkfile.proofs.FirstRefusal.{first-here, value-fails, value-passes, first-byte, second-byte, sizes-within}
 use Rattle.checkfile.proofs.fields.Reader.sizes.Needs as need
 
 pub returns-in-Break-field : need.returns-in-Break-field

@@ -5,7 +5,7 @@ use Rattle.std.specs.declared.option.Option.{Option}
 use Rattle.std.proofs.shelf.Results.{err-from-errBy}
 use Rattle.marks.specs.declared.refusal.Refusal.{Refusal}
 use Rattle.checkfile.specs.Tests.{firstRefusal, costTests, endTests, tailTests}
-use Rattle.checkfile.proofs.Tests.{first-here, first-later, judged-err}
+use Rattle.checkfile.proofs.FirstRefusal.{first-here, first-later, judged-err}
 use Rattle.checkfile.proofs.fields.Reader.tail.Needs as need
 
 -- after costs that pass, what the end's test says of the reader as the costs left it
@@ -38,5 +38,6 @@ returns-in-Continue-end-2 c =
     let at = c .args .self .now .offset in
     let f = c .in-Continue-costs .ensures tt in
     rw (c .in-Cost .is) (
-        first-later (costTests file at (c .args .n)) _ (f .judged .0) ∙ moved file _ (at + 3 + 2 * c .args .n) _ _ (f .file) (f .judged .1 .2) (c .in-Continue-end-2 .ensures tt .0),
-        record { part = f .judged .1 .0; long = f .judged .1 .1; affordable = f .judged .1 .3 })
+      first-later (costTests file at (c .args .n)) _ (f .judged .0) ∙ moved file _ (at + 3 + 2 * c .args .n) _ _ (f .file) (f .judged .1 .2) (c .in-Continue-end-2 .ensures tt .0),
+      record { part = f .judged .1 .0; long = f .judged .1 .1; affordable = f .judged .1 .3 },
+    )

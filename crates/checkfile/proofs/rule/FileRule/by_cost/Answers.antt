@@ -12,8 +12,9 @@ use Rattle.checkfile.proofs.rule.FileRule.by_cost.Needs as need
 pub returns : need.returns
 returns c =
     let n = c .args .n in
-    let costs = c .costs-from .result in
-    (refl,
-    refl,
-    fill-by-all (λ k. pair (c .args .bytes .now) (2 * k)) (take n costs) n 0 (length-take-le n costs (omega (arith, c .costs-from .ensures .len)))
-    (λ k h. getD-take n costs k 0 h ∙ c .costs-from .ensures .items k h))
+    let costs = c .costs-from .result in (
+      refl,
+      refl,
+      fill-by-all (λ k. pair (c .args .bytes .now) (2 * k)) (take n costs) n 0 (length-take-le n costs (omega (arith, c .costs-from .ensures .len)))
+          (λ k h. getD-take n costs k 0 h ∙ c .costs-from .ensures .items k h),
+    )

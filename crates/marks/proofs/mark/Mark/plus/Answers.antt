@@ -24,9 +24,10 @@ loop-i-holds g c = sym (pack-none 4 _)
 pub add-number : need.add-number
 add-number g c =
     omega (
-        arith,
-        next g c,
-        plus-fits (g .A·Alphabet .symbols) (g .A·Alphabet·met .lawful) (c .loop-i .i + 1) (c .args .self .number) (c .args .other .number) (omega arith))
+      arith,
+      next g c,
+      plus-fits (g .A·Alphabet .symbols) (g .A·Alphabet·met .lawful) (c .loop-i .i + 1) (c .args .self .number) (c .args .other .number) (omega arith),
+    )
 
 pub loop-i-again : need.loop-i-again
 loop-i-again g c = next g c

@@ -27,7 +27,7 @@ first-later [] after h = refl
 first-later (t ∷ before) after h = go (t .passed) (first-later before after) h
   where
     go : (b : Bool) → (firstRefusal before ≡ None → firstRefusal (before ++ after) ≡ firstRefusal after)
-       → cond b (firstRefusal before) (Some (t .refusal)) ≡ None → cond b (firstRefusal (before ++ after)) (Some (t .refusal)) ≡ firstRefusal after
+        → cond b (firstRefusal before) (Some (t .refusal)) ≡ None → cond b (firstRefusal (before ++ after)) (Some (t .refusal)) ≡ firstRefusal after
     go true rest k = rest k
     go false rest k = absurd (some-none k)
       where
@@ -39,7 +39,7 @@ first-here [] after e h = absurd (let z : _≡_ {A = ℕ} 0 1 = cc in omega arit
 first-here (t ∷ before) after e h = go (t .passed) (first-here before after e) h
   where
     go : (b : Bool) → (firstRefusal before ≡ Some e → firstRefusal (before ++ after) ≡ Some e)
-       → cond b (firstRefusal before) (Some (t .refusal)) ≡ Some e → cond b (firstRefusal (before ++ after)) (Some (t .refusal)) ≡ Some e
+        → cond b (firstRefusal before) (Some (t .refusal)) ≡ Some e → cond b (firstRefusal (before ++ after)) (Some (t .refusal)) ≡ Some e
     go true rest k = rest k
     go false rest k = k
 
@@ -119,23 +119,24 @@ module _ (file contents : List ℕ) (at q size : ℕ) (part : contents ≡ take 
   symbol-fails k h before here =
       first-later (fieldTests file at 3 size) (symbolTests file at q size) field
       ∙ one-fails (λ j. test (ltb (byte file (at + 3 + j)) q) (CheckSymbol (at + 3 + j))) size k h
-        (λ j l. lt-ltb (byte file (at + 3 + j)) q (omega (arith, before j l, contents-byte file contents (at + 3) size j part (omega arith))))
-        (le-ltb (byte file (at + 3 + k)) q (omega (arith, contents-byte file contents (at + 3) size k part h)))
+      (λ j l. lt-ltb (byte file (at + 3 + j)) q (omega (arith, before j l, contents-byte file contents (at + 3) size j part (omega arith))))
+      (le-ltb (byte file (at + 3 + k)) q (omega (arith, contents-byte file contents (at + 3) size k part h)))
 
   pub symbols-pass : ((j : ℕ) → j < size → getD contents j 0 < q) → firstRefusal (checkTests file at q size) ≡ None
   unfolding symbolTests
   symbols-pass each =
       first-later (fieldTests file at 3 size) (symbolTests file at q size) field
       ∙ all-pass (λ j. test (ltb (byte file (at + 3 + j)) q) (CheckSymbol (at + 3 + j))) size
-        (λ j l. lt-ltb (byte file (at + 3 + j)) q (omega (arith, each j l, contents-byte file contents (at + 3) size j part l)))
+      (λ j l. lt-ltb (byte file (at + 3 + j)) q (omega (arith, each j l, contents-byte file contents (at + 3) size j part l)))
 
 pub contents-pair : (file contents : List ℕ) (at n k : ℕ) → contents ≡ take (2 * n) (drop (at + 3) file) → k < n → pair contents (2 * k) ≡ pair file (at + 3 + 2 * k)
 contents-pair file contents at n k part h =
     omega (
-        arith,
-        contents-byte file contents (at + 3) (2 * n) (2 * k) part (omega arith),
-        contents-byte file contents (at + 3) (2 * n) (2 * k + 1) part (omega arith),
-        ap (byte file) (add-assoc (at + 3) (2 * k) 1))
+      arith,
+      contents-byte file contents (at + 3) (2 * n) (2 * k) part (omega arith),
+      contents-byte file contents (at + 3) (2 * n) (2 * k + 1) part (omega arith),
+      ap (byte file) (add-assoc (at + 3) (2 * k) 1),
+    )
 
 -- a field of costs, likewise
 module _ (file contents : List ℕ) (at n : ℕ) (part : contents ≡ take (2 * n) (drop (at + 3) file)) (field : firstRefusal (fieldTests file at 5 (2 * n)) ≡ None) where
@@ -144,15 +145,15 @@ module _ (file contents : List ℕ) (at n : ℕ) (part : contents ≡ take (2 * 
   cost-fails k h before here =
       first-later (fieldTests file at 5 (2 * n)) (priceTests file at n) field
       ∙ one-fails (λ j. test (leb (pair file (at + 3 + 2 * j)) 1000) (CostInFile (at + 3 + 2 * j))) n k h
-        (λ j l. le-leb (pair file (at + 3 + 2 * j)) 1000 (omega (arith, before j l, contents-pair file contents at n j part (omega arith))))
-        (lt-leb (pair file (at + 3 + 2 * k)) 1000 (omega (arith, contents-pair file contents at n k part h)))
+      (λ j l. le-leb (pair file (at + 3 + 2 * j)) 1000 (omega (arith, before j l, contents-pair file contents at n j part (omega arith))))
+      (lt-leb (pair file (at + 3 + 2 * k)) 1000 (omega (arith, contents-pair file contents at n k part h)))
 
   pub costs-pass : ((j : ℕ) → j < n → pair contents (2 * j) ≤ 1000) → firstRefusal (costTests file at n) ≡ None
   unfolding priceTests
   costs-pass each =
       first-later (fieldTests file at 5 (2 * n)) (priceTests file at n) field
       ∙ all-pass (λ j. test (leb (pair file (at + 3 + 2 * j)) 1000) (CostInFile (at + 3 + 2 * j))) n
-        (λ j l. le-leb (pair file (at + 3 + 2 * j)) 1000 (omega (arith, each j l, contents-pair file contents at n j part l)))
+      (λ j l. le-leb (pair file (at + 3 + 2 * j)) 1000 (omega (arith, each j l, contents-pair file contents at n j part l)))
 
 -- what sizes that fit keep
 pub sizes-within : (q n r : ℕ) → sizesFit q n r ≡ true → ((1 ≤ n) × (1 ≤ r)) × ((n * (q - 1) ≤ 24) × (q ^ r ≤ 256))
