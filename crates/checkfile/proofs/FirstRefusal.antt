@@ -16,8 +16,8 @@ use Rattle.std.proofs.shelf.Tests.{cond-true, cond-false, lt-ltb, le-ltb, le-le
 use Rattle.std.proofs.shelf.Ways.{tells}
 use Rattle.std.specs.declared.result.Result.{Result}
 use Rattle.std.specs.declared.result.Result.the-variants.{Err}
-use Rattle.marks.specs.declared.refusal.Refusal.{Refusal}
-use Rattle.marks.specs.declared.refusal.Refusal.the-variants.{CutOff, OtherTag, OtherLength, CheckSymbol, CostInFile}
+use Rattle.refusals.specs.declared.Refusal.{Refusal}
+use Rattle.refusals.specs.declared.Refusal.the-variants.{CutOff, OtherTag, OtherLength, CheckSymbol, CostInFile}
 use Rattle.checkfile.specs.declared.kind.Kind.{Kind}
 use Rattle.checkfile.specs.Tests.{Test, test, firstRefusal, byte, pair, fieldTests, symbolTests, checkTests, priceTests, costTests, sizesFit, Judged, tailTests, CostBytes}
 

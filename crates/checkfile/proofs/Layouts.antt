@@ -15,8 +15,8 @@ use Rattle.std.proofs.shelf.Counted.{length-map-counting, getD-map-counting, fi
 use Rattle.std.proofs.shelf.Lists.{append-nil, length-append, length-drop, length-take-le, take-append-drop, take-at, drop-at, drop-drop, drop-all, drop-more, getD-drop, getD-past}
 use Rattle.std.proofs.shelf.Tests.{cases-lt, cond-true, ltb-true, leb-true, le-leb, and-from}
 use Rattle.std.proofs.shelf.Ways.{tells}
-use Rattle.marks.specs.declared.refusal.Refusal.{Refusal}
-use Rattle.marks.specs.declared.refusal.Refusal.the-variants.{CheckSymbol, CostInFile, Surplus}
+use Rattle.refusals.specs.declared.Refusal.{Refusal}
+use Rattle.refusals.specs.declared.Refusal.the-variants.{CheckSymbol, CostInFile, Surplus}
 use Rattle.checkfile.specs.declared.kind.Kind.{Kind}
 use Rattle.checkfile.specs.declared.kind.Kind.the-variants.{Plain, Weight, Cost}
 use Rattle.checkfile.specs.Layout.{Content, Sound, CostsOf, kindByte, isKind, kindOf, costsUnder, twoBytes, field, costField, layout}

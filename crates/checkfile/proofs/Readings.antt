@@ -7,7 +7,7 @@ use lib.ListN.{getD, take, drop}
 use Rattle.std.specs.Iters.{counting}
 use Rattle.std.specs.declared.option.Option.the-variants.{None, Some}
 use Rattle.std.proofs.shelf.Counted.{fill-by-all, getD-map-counting, length-map-counting}
-use Rattle.marks.specs.declared.refusal.Refusal.{Refusal}
+use Rattle.refusals.specs.declared.Refusal.{Refusal}
 use Rattle.checkfile.specs.declared.code.Code.{Code}
 use Rattle.checkfile.specs.declared.kind.Kind.{Kind}
 use Rattle.checkfile.specs.declared.kind.Kind.the-variants.{Plain, Weight, Cost}

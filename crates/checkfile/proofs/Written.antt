@@ -9,7 +9,7 @@ use lib.ListN.{length, getD, take, drop}
 use Rattle.std.specs.declared.result.Result.the-variants.{Ok, Err}
 use Rattle.std.proofs.shelf.Lists.{getD-take, getD-past, length-take-le}
 use Rattle.std.proofs.shelf.Tests.{cond-true, cond-false, eq-eqb, le-leb, lt-leb, and-from, and-right, cases-lt}
-use Rattle.marks.specs.declared.refusal.Refusal.the-variants.{FileTooShort, RuleOfOtherCode}
+use Rattle.refusals.specs.declared.Refusal.the-variants.{FileTooShort, RuleOfOtherCode}
 use Rattle.checkfile.specs.declared.code.Code.{Code}
 use Rattle.checkfile.specs.declared.kind.Kind.{Kind}
 use Rattle.checkfile.specs.declared.kind.Kind.the-variants.{Plain, Weight, Cost}

@@ -11,8 +11,8 @@ use Rattle.std.specs.declared.option.Option.the-variants.{Some, None}
 use Rattle.std.specs.declared.result.Result.{Result}
 use Rattle.std.specs.declared.result.Result.the-variants.{Ok, Err}
 use Rattle.algebra.specs.Checks.{Checks}
-use Rattle.marks.specs.declared.refusal.Refusal.{Refusal}
-use Rattle.marks.specs.declared.refusal.Refusal.the-variants.{RuleOfOtherCode, FileTooShort}
+use Rattle.refusals.specs.declared.Refusal.{Refusal}
+use Rattle.refusals.specs.declared.Refusal.the-variants.{RuleOfOtherCode, FileTooShort}
 use Rattle.checkfile.specs.declared.code.Code.{Code}
 use Rattle.checkfile.specs.declared.rule.FileRule.{FileRule}
 use Rattle.checkfile.specs.Symbols.{checkAt}

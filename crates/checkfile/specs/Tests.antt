@@ -10,11 +10,11 @@ use Rattle.std.specs.declared.option.Option.{Option}
 use Rattle.std.specs.declared.option.Option.the-variants.{Some, None}
 use Rattle.std.specs.declared.result.Result.{Result}
 use Rattle.std.specs.declared.result.Result.the-variants.{Ok, Err}
-use Rattle.marks.specs.declared.refusal.Refusal.{Refusal}
+use Rattle.refusals.specs.declared.Refusal.{Refusal}
 use Rattle.checkfile.specs.declared.kind.Kind.{Kind}
 use Rattle.checkfile.specs.declared.kind.Kind.the-variants.{Plain, Weight, Cost}
 use Rattle.checkfile.specs.Layout.{isKind, kindOf}
-use Rattle.marks.specs.declared.refusal.Refusal.the-variants.{CutOff, OtherTag, OtherLength, SymbolCount, Size, CheckSymbol, RuleByte, CostInFile, Surplus}
+use Rattle.refusals.specs.declared.Refusal.the-variants.{CutOff, OtherTag, OtherLength, SymbolCount, Size, CheckSymbol, RuleByte, CostInFile, Surplus}
 
 pub record Test : Type 0 where
   pub passed : Bool

@@ -7,7 +7,7 @@ ghost use lib.ListN.{length, getD, take, drop};
 ghost use Rattle.checkfile.specs.Tests.{Judged, fieldTests, countTests, sizeTests, checkTests, ruleTests, costTests, endTests, tailTests, CostBytes, byte, pair, sizesFit};
 ghost use Rattle.checkfile.specs.Layout.{kindOf};
 use crate::kind::Kind;
-use marks::refusal::Refusal;
+use refusals::Refusal;
 
 #[derive(Drop)]
 pub(crate) struct Reader<'a> {

@@ -6,7 +6,7 @@ use crate::code::Code;
 use crate::fields::Reader;
 use crate::kind::Kind;
 use crate::rule::FileRule;
-use marks::refusal::Refusal;
+use refusals::Refusal;
 
 // What an accepted file says, with its lists still in the file.
 #[derive(Drop)]

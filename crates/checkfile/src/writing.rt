@@ -9,7 +9,7 @@ ghost use Rattle.checkfile.specs.Layout.{Put, field, layout, kindByte, twoByte
 use crate::code::Code;
 use crate::kind::Kind;
 use crate::rule::FileRule;
-use marks::refusal::Refusal;
+use refusals::Refusal;
 
 fn put(buffer: &mut [u8], at: usize, bytes: &[u8]) -> usize
     requires { ⌜ at + length (now bytes) ≤ length (now buffer) ⌝ }

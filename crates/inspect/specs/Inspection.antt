@@ -10,7 +10,7 @@ use Rattle.lines.specs.Input.{symbolOf}
 use Rattle.lines.specs.Report.{checkedLine, refusedLine}
 use Rattle.marks.specs.Reading.{reading}
 use Rattle.marks.specs.declared.mark.Mark.{Mark}
-use Rattle.marks.specs.declared.refusal.Refusal.{Refusal}
+use Rattle.refusals.specs.declared.Refusal.{Refusal}
 
 abbrev pub valuesOf : Symbols → Checks → ℕ → List ℕ
 valuesOf S C y = map (checkValue S C y) (counting 0 (C .r))

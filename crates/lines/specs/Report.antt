@@ -5,8 +5,8 @@ use Prim.Native.Nat.{ℕ, _+_}
 use lib.Chars.{codes}
 use lib.Dec.{eqb, ltb}
 use Rattle.std.specs.Written.{decimal}
-use Rattle.marks.specs.Refusals.{listed}
-use Rattle.marks.specs.declared.refusal.Refusal.{Refusal}
+use Rattle.refusals.specs.Refusals.{listed}
+use Rattle.refusals.specs.declared.Refusal.{Refusal}
 
 -- the digit of a symbol, or '?' where it has more than one
 abbrev pub digitOf : ℕ → ℕ

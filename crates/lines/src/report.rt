@@ -3,7 +3,7 @@ ghost use mathlib.Core.Path.{_≡_};
 ghost use Rattle.std.specs.Of.String.{string-bytes};
 ghost use Rattle.std.specs.Vec.{made};
 ghost use Rattle.lines.specs.Report.{digitOf, digitsOf, refusedText, refusedLine, checksRefused, tableLine, checkedLine, verdictOf};
-use marks::refusal::Refusal;
+use refusals::Refusal;
 use std::alloc::AllocError;
 use std::alloc::Global;
 

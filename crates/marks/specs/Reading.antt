@@ -9,8 +9,8 @@ use Rattle.std.specs.declared.result.Result.the-variants.{Ok, Err}
 use Rattle.algebra.specs.Marks.{numberOf}
 use Rattle.algebra.specs.Symbols.{Symbols}
 use Rattle.marks.specs.declared.mark.Mark.{Mark}
-use Rattle.marks.specs.declared.refusal.Refusal.{Refusal}
-use Rattle.marks.specs.declared.refusal.Refusal.the-variants.{MarkLength, MarkSymbol}
+use Rattle.refusals.specs.declared.Refusal.{Refusal}
+use Rattle.refusals.specs.declared.Refusal.the-variants.{MarkLength, MarkSymbol}
 
 -- the index of the first byte that is not below q, or the length where each one is
 abbrev pub firstOutside : ℕ → List ℕ → ℕ

@@ -7,7 +7,7 @@ ghost use Rattle.algebra.specs.Digits.{digit};
 ghost use Rattle.algebra.specs.Marks.{numberOf, bytesOf, put, blank as blanked, plus as sumOf, minus as differenceOf, weight as weightOf};
 ghost use Rattle.marks.specs.Reading.{firstOutside, reading};
 use crate::alphabet::Alphabet;
-use crate::refusal::Refusal;
+use refusals::Refusal;
 
 // How many places fit 64 bits.
 pub const PLACES: usize = 32;

@@ -13,9 +13,9 @@ use crate::alphabet::sum_modulo;
 use crate::mark::Mark;
 use crate::mark::MarkDebug;
 use crate::mark::MarkPartialEq;
-use crate::refusal::Refusal;
-use crate::refusal::RefusalDebug;
-use crate::refusal::RefusalPartialEq;
+use refusals::Refusal;
+use refusals::RefusalDebug;
+use refusals::RefusalPartialEq;
 use std::test::*;
 
 #[test]

@@ -3,7 +3,7 @@ use Prim.Native.Nat.{_+_}
 use native.Mathlib.Omega.{arith}
 use Rattle.std.specs.declared.option.Option.the-variants.{Some}
 use Rattle.std.proofs.shelf.Results.{err-from-errBy}
-use Rattle.marks.specs.declared.refusal.Refusal.the-variants.{CheckSymbol}
+use Rattle.refusals.specs.declared.Refusal.the-variants.{CheckSymbol}
 use Rattle.checkfile.specs.Tests.{fieldTests}
 use Rattle.checkfile.proofs.FirstRefusal.{first-here, symbol-fails, symbols-pass}
 use Rattle.checkfile.proofs.fields.Reader.checks.Needs as need

@@ -3,7 +3,7 @@ use Prim.Native.Nat.{_+_, _*_}
 use native.Mathlib.Omega.{arith}
 use Rattle.std.specs.declared.option.Option.the-variants.{Some}
 use Rattle.std.proofs.shelf.Results.{err-from-errBy}
-use Rattle.marks.specs.declared.refusal.Refusal.the-variants.{CostInFile}
+use Rattle.refusals.specs.declared.Refusal.the-variants.{CostInFile}
 use Rattle.checkfile.specs.Tests.{fieldTests}
 use Rattle.checkfile.proofs.FirstRefusal.{first-here, cost-fails, costs-pass}
 use Rattle.checkfile.proofs.fields.Reader.costs.Needs as need

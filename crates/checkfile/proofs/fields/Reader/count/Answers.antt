@@ -8,7 +8,7 @@ use lib.ListN.{getD}
 use Rattle.std.specs.declared.option.Option.the-variants.{Some}
 use Rattle.std.proofs.shelf.Results.{err-from-errBy}
 use Rattle.std.proofs.shelf.Ways.{tells}
-use Rattle.marks.specs.declared.refusal.Refusal.the-variants.{SymbolCount}
+use Rattle.refusals.specs.declared.Refusal.the-variants.{SymbolCount}
 use Rattle.checkfile.specs.Tests.{byte, test, fieldTests}
 use Rattle.checkfile.proofs.FirstRefusal.{first-here, value-fails, value-passes, first-byte}
 use Rattle.checkfile.proofs.fields.Reader.count.Needs as need

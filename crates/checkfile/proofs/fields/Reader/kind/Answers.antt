@@ -4,7 +4,7 @@ use Prim.Native.Nat.{_+_}
 use native.Mathlib.Omega.{arith}
 use Rattle.std.specs.declared.option.Option.the-variants.{Some}
 use Rattle.std.proofs.shelf.Results.{err-from-errBy}
-use Rattle.marks.specs.declared.refusal.Refusal.the-variants.{RuleByte}
+use Rattle.refusals.specs.declared.Refusal.the-variants.{RuleByte}
 use Rattle.checkfile.specs.Layout.{isKind, kindOf}
 use Rattle.checkfile.specs.Tests.{byte, fieldTests}
 use Rattle.checkfile.proofs.FirstRefusal.{first-here, value-fails, value-passes, first-byte}

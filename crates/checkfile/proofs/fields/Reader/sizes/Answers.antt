@@ -5,7 +5,7 @@ use native.Mathlib.Omega.{arith}
 use lib.ListN.{getD}
 use Rattle.std.specs.declared.option.Option.the-variants.{Some}
 use Rattle.std.proofs.shelf.Results.{err-from-errBy}
-use Rattle.marks.specs.declared.refusal.Refusal.the-variants.{Size}
+use Rattle.refusals.specs.declared.Refusal.the-variants.{Size}
 use Rattle.checkfile.specs.Tests.{byte, fieldTests, sizesFit}
 use Rattle.checkfile.proofs.FirstRefusal.{first-here, value-fails, value-passes, first-byte, second-byte, sizes-within}
 use Rattle.checkfile.proofs.fields.Reader.sizes.Needs as need

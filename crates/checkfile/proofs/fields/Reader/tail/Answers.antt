@@ -3,7 +3,7 @@ use mathlib.Core.List.{List}
 use Prim.Native.Nat.{ℕ, _+_, _*_}
 use Rattle.std.specs.declared.option.Option.{Option}
 use Rattle.std.proofs.shelf.Results.{err-from-errBy}
-use Rattle.marks.specs.declared.refusal.Refusal.{Refusal}
+use Rattle.refusals.specs.declared.Refusal.{Refusal}
 use Rattle.checkfile.specs.Tests.{firstRefusal, costTests, endTests, tailTests}
 use Rattle.checkfile.proofs.FirstRefusal.{first-here, first-later, judged-err}
 use Rattle.checkfile.proofs.fields.Reader.tail.Needs as need

@@ -1,6 +1,6 @@
 // Why a call declines. `listed` gives each refusal its number, layer and place.
 ghost use mathlib.Core.Path.{_≡_};
-ghost use Rattle.marks.specs.Refusals.{listed};
+ghost use Rattle.refusals.specs.Refusals.{listed};
 
 #[derive(Clone, Copy, PartialEq, Eq, Debug)]
 pub enum Refusal {
