@@ -4,7 +4,7 @@ ghost use Rattle.refusals.specs.Refusals.{listed};
 
 #[derive(Clone, Copy, PartialEq, Eq, Debug)]
 pub enum Refusal {
-    // The file, by the offset of the byte that is wrong.
+    // Reading a file, by an offset in it.
     CutOff(usize),
     OtherTag(usize),
     OtherLength(usize),
