@@ -1,11 +1,18 @@
 -- The laws of digits: a packed number has the digits it was packed from, and numbers with the same digits are equal.
 use mathlib.Core.Path.{_≡_, refl, sym, ap, ap₂, _∙_, subst}
-use mathlib.Core.Bool.{true, false}
+use mathlib.Core.Bool.{cond}
 use Prim.Native.Nat.{ℕ, zero, suc, _+_, _-_, _*_, _/_, _%_, _^_, _<_, _≤_, zero-le, suc-le-suc}
 use native.Mathlib.Nat.{pow-zero, pow-succ', pow-le-pow-right, div-div-eq-div-mul, mul-le-mul-left, mul-assoc, mul-comm, mul-add, mul-zero, mul-one}
 use native.Mathlib.Numerals.{add-one}
 use native.Mathlib.Omega.{arith}
+use lib.Dec.{eqb}
+use Rattle.std.proofs.shelf.Bits.{mod-mul-add}
+use Rattle.std.proofs.shelf.Tests.{cond-false, ne-eqb}
+use Rattle.std.proofs.shelf.Ways.{tells}
 use Rattle.algebra.specs.Digits.{pack, digit, total}
+
+pub eqb-suc : (j i : ℕ) → eqb (suc j) (suc i) ≡ eqb j i
+eqb-suc j i = grind (arith, tells)
 
 pub digit-first : (u : ℕ) → digit u 0 ≡ u % 4
 digit-first u = omega arith
@@ -87,6 +94,30 @@ pub pack-none : (b : ℕ) (f : ℕ → ℕ) → pack b 0 f ≡ 0
 unfolding pack
 pack-none b f = refl
 
+-- the digits of a number below place n, and what they leave
+low-digits : (n u : ℕ) → u ≡ u / 4 ^ n * 4 ^ n + pack 4 n (digit u)
+unfolding pack
+low-digits zero u = omega arith
+low-digits (suc n) u =
+    let w : ℕ = u / 4 in
+    let top : u / 4 ^ suc n ≡ w / 4 ^ n = ap (λ b. u / b) (pow-succ' 4 n) ∙ sym (div-div-eq-div-mul u 4 (4 ^ n)) in
+    let rest : pack 4 n (λ i. digit u (suc i)) ≡ pack 4 n (digit w) = pack-same 4 n (λ i. digit u (suc i)) (digit w) (λ i _. digit-rest u i) in
+    let high : u / 4 ^ suc n * 4 ^ suc n ≡ 4 * (w / 4 ^ n * 4 ^ n) =
+    ap₂ (λ x y. x * y) top (pow-succ' 4 n) ∙ sym (mul-assoc (w / 4 ^ n) 4 (4 ^ n)) ∙ ap (λ x. x * 4 ^ n) (mul-comm (w / 4 ^ n) 4) ∙ mul-assoc 4 (w / 4 ^ n) (4 ^ n)
+    in
+    omega (arith, low-digits n w, digit-first u)
+
+pub mod-digits : (n u : ℕ) → u % 4 ^ n ≡ pack 4 n (digit u)
+mod-digits n u =
+    ap (λ x. x % 4 ^ n) (low-digits n u)
+    ∙ mod-mul-add (u / 4 ^ n) (4 ^ n) (pack 4 n (digit u)) (pack-below 4 n (digit u) (λ i _. digit-symbol u i))
+
+pub mod-below : (n u : ℕ) → u % 4 ^ n < 4 ^ n
+mod-below n u = subst (λ x. x < 4 ^ n) (sym (mod-digits n u)) (pack-below 4 n (digit u) (λ i _. digit-symbol u i))
+
+pub mod-digit : (n u i : ℕ) → i < n → digit (u % 4 ^ n) i ≡ digit u i
+mod-digit n u i h = ap (λ x. digit x i) (mod-digits n u) ∙ pack-digit n (digit u) (λ j _. digit-symbol u j) i h
+
 -- one digit more, at the top
 pub pack-more : (b n : ℕ) (f : ℕ → ℕ) → pack b (n + 1) f ≡ pack b n f + f n * b ^ n
 pack-more b n f = ap (λ k. pack b k f) (add-one n) ∙ pack-top b n f
@@ -115,7 +146,7 @@ zeros-packed b (suc n) f p e (suc i) h =
     rest zero k = refl
     rest (suc w) k = absurd (let m : b * 1 ≤ b * suc w = mul-le-mul-left b (suc-le-suc zero-le) in omega arith)
 
-total-top : (n : ℕ) (f : ℕ → ℕ) → total (suc n) f ≡ total n f + f n
+pub total-top : (n : ℕ) (f : ℕ → ℕ) → total (suc n) f ≡ total n f + f n
 unfolding total
 total-top zero f = omega arith
 total-top (suc n) f = omega (arith, total-top n (λ i. f (suc i)))
@@ -128,3 +159,18 @@ unfolding total
 total-same zero f g e = refl
 total-same (suc n) f g e =
     ap₂ (λ x y. x + y) (e 0 (omega arith)) (total-same n (λ i. f (suc i)) (λ i. g (suc i)) (λ i h. e (suc i) (omega arith)))
+
+-- a total after one term is changed
+pub total-changed : (n i : ℕ) (g : ℕ → ℕ → ℕ) (d : ℕ → ℕ) (b : ℕ) → i < n
+    → total n (λ j. g j (cond (eqb j i) b (d j))) + g i (d i) ≡ total n (λ j. g j (d j)) + g i b
+unfolding total
+total-changed zero i g d b h = absurd (omega arith)
+total-changed (suc n) zero g d b h =
+    let rest : total n (λ j. g (suc j) (cond (eqb (suc j) 0) b (d (suc j)))) ≡ total n (λ j. g (suc j) (d (suc j))) =
+    total-same n _ _ (λ j _. ap (g (suc j)) (cond-false (eqb (suc j) 0) b (d (suc j)) (ne-eqb (suc j) 0 (omega arith))))
+    in omega arith
+total-changed (suc n) (suc i) g d b h =
+    let here : g 0 (cond (eqb 0 (suc i)) b (d 0)) ≡ g 0 (d 0) = ap (g 0) (cond-false (eqb 0 (suc i)) b (d 0) (ne-eqb 0 (suc i) (omega arith))) in
+    let rest : total n (λ j. g (suc j) (cond (eqb (suc j) (suc i)) b (d (suc j)))) ≡ total n (λ j. g (suc j) (cond (eqb j i) b (d (suc j)))) =
+    total-same n _ _ (λ j _. ap (λ t. g (suc j) (cond t b (d (suc j)))) (eqb-suc j i))
+    in omega (arith, total-changed n i (λ j. g (suc j)) (λ j. d (suc j)) b (omega arith))

@@ -13,11 +13,10 @@ use lib.ListN.{length, getD}
 use Rattle.std.specs.Iters.{counting}
 use Rattle.std.proofs.shelf.Counted.{length-map-counting, getD-map-counting, fill-by-all}
 use Rattle.std.proofs.shelf.Tests.{cond-false, cond-both, ne-eqb}
-use Rattle.std.proofs.shelf.Ways.{tells}
 use Rattle.algebra.specs.Digits.{pack, digit, total}
 use Rattle.algebra.specs.Marks.{numberOf, bytesOf, put, plus, minus, weight, nonzero}
 use Rattle.algebra.specs.Symbols.{Symbols, Lawful}
-use Rattle.algebra.proofs.Digits.{digit-first, digit-rest, digit-symbol, digit-past, digit-joined-first, digit-joined-rest, same-digits, pack-below, pack-digit, pack-same, pack-digits, pack-fits, total-same}
+use Rattle.algebra.proofs.Digits.{eqb-suc, digit-first, digit-rest, digit-symbol, digit-past, digit-joined-first, digit-joined-rest, same-digits, pack-below, pack-digit, pack-same, pack-digits, pack-fits, total-same}
 
 -- bytes that spell symbols come back from the number
 pub bytes-back : (n : ℕ) (bytes : List ℕ) → length bytes ≡ n → ((i : ℕ) → i < n → getD bytes i 0 < 4) → bytesOf n (numberOf bytes) ≡ bytes
@@ -63,9 +62,6 @@ changed-rest u i a =
     let out : digit u (suc i) * 4 ^ suc i ≡ 4 * (digit (u / 4) i * 4 ^ i) = ap (λ d. d * 4 ^ suc i) (digit-rest u i) ∙ times-four (digit (u / 4) i) i in
     omega (arith, times-four a i, digit-fits (u / 4) i)
 
-eqb-suc : (j i : ℕ) → eqb (suc j) (suc i) ≡ eqb j i
-eqb-suc j i = grind (arith, tells)
-
 changed-below : (n u i a : ℕ) → a < 4 → i < n → u < 4 ^ n → changed u i a < 4 ^ n
 changed-below zero u i a h k l = absurd (omega arith)
 changed-below (suc n) u zero a h k l = omega (arith, changed-first u a, pow-succ' 4 n)
@@ -85,20 +81,24 @@ changed-digit u (suc i) a h (suc j) =
     ∙ changed-digit (u / 4) i a h j
     ∙ ap₂ (λ t d. cond t a d) (sym (eqb-suc j i)) (sym (digit-rest u j))
 
+-- the bound of `put`, and its digits
+put-symbol : (u i a : ℕ) → a < 4 → (j : ℕ) → cond (eqb j i) a (digit u j) < 4
+put-symbol u i a h j = cond-both (eqb j i) a (digit u j) (λ x. x < 4) (λ _. h) (λ _. digit-symbol u j)
+
+pub put-below : (n u i a : ℕ) → a < 4 → put n u i a < 4 ^ n
+put-below n u i a h = pack-below 4 n (λ j. cond (eqb j i) a (digit u j)) (λ j _. put-symbol u i a h j)
+
+pub put-digit : (n u i a : ℕ) → a < 4 → (j : ℕ) → j < n → digit (put n u i a) j ≡ cond (eqb j i) a (digit u j)
+put-digit n u i a h = pack-digit n (λ j. cond (eqb j i) a (digit u j)) (λ j _. put-symbol u i a h j)
+
 -- what is changed in place is what `put` says
 pub changed-fits : (n u i a : ℕ) → a < 4 → i < n → u < 4 ^ n → u - digit u i * 4 ^ i + a * 4 ^ i < 4 ^ n
 changed-fits = changed-below
 
 pub changed-put : (n u i a : ℕ) → a < 4 → i < n → u < 4 ^ n → u - digit u i * 4 ^ i + a * 4 ^ i ≡ put n u i a
 changed-put n u i a h k l =
-    same-digits n (changed u i a) (put n u i a) (changed-below n u i a h k l) (pack-below 4 n symbol (λ j _. symbol-below j))
-    (λ j m. changed-digit u i a h j ∙ sym (pack-digit n symbol (λ j _. symbol-below j) j m))
-  where
-    symbol : ℕ → ℕ
-    symbol j = cond (eqb j i) a (digit u j)
-
-    symbol-below : (j : ℕ) → symbol j < 4
-    symbol-below j = cond-both (eqb j i) a (digit u j) (λ x. x < 4) (λ _. h) (λ _. digit-symbol u j)
+    same-digits n (changed u i a) (put n u i a) (changed-below n u i a h k l) (put-below n u i a h)
+    (λ j m. changed-digit u i a h j ∙ sym (put-digit n u i a h j m))
 
 -- a place past the last one is none
 pub put-past : (n u i a : ℕ) → u < 4 ^ n → n ≤ i → put n u i a ≡ u

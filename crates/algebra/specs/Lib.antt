@@ -2,3 +2,4 @@ pub mod Digits
 pub mod Symbols
 pub mod Marks
 pub mod Checks
+pub mod Rankings
