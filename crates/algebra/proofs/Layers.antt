@@ -10,7 +10,7 @@ use Rattle.std.proofs.shelf.Tests.{or-cases, or-left, or-right, or-parts, and-p
 use Rattle.std.proofs.shelf.Ways.{tells}
 use Rattle.algebra.specs.Digits.{pack, digit, total}
 use Rattle.algebra.specs.Marks.{Mark, put, nonzero, weight}
-use Rattle.algebra.specs.Rankings.{Ranking, Ranks, filled, mirrored, mirror, wiped, erased}
+use Rattle.algebra.specs.Rankings.{MarkRanking, Ranks, filled, mirrored, mirror, wiped, erased}
 use Rattle.algebra.specs.Symbols.{Symbols, Lawful}
 use Rattle.algebra.proofs.Digits.{digit-symbol, digit-past, same-digits, pack-below, pack-digit, pack-same, mod-below, mod-digit, total-top, total-same}
 use Rattle.algebra.proofs.Marks.{put-below, put-digit}
@@ -71,7 +71,7 @@ module _ (n : ℕ) where
   turned-weight : (u : ℕ) → weight n (mirrored n u) ≡ weight n u
   turned-weight u = total-same n _ _ (λ i h. ap nonzero (turned-digit u i h)) ∙ total-reversed n (λ i. nonzero (digit u i))
 
-pub mirror-ranks : (R : Ranking) → Ranks R → Ranks (mirror R)
+pub mirror-ranks : (R : MarkRanking) → Ranks R → Ranks (mirror R)
 mirror-ranks R ranks = record {
   least = ranks .least;
   most = ranks .most;
@@ -171,11 +171,11 @@ not-true : (b : Bool) → (b ≡ true → ⊥) → b ≡ false
 not-true true h = absurd (h refl)
 not-true false h = refl
 
-module _ (gone : ℕ → ℕ) (R : Ranking) (ranks : Ranks R) where
+module _ (gone : ℕ → ℕ) (R : MarkRanking) (ranks : Ranks R) where
   abbrev w : ℕ → ℕ
   w = wiped (R .n) gone
 
-  abbrev E : Ranking
+  abbrev E : MarkRanking
   E = erased gone R
 
   irreflexive : (u : ℕ) → R .before u u ≡ true → ⊥

@@ -10,7 +10,7 @@ use Rattle.std.proofs.shelf.Tests.{or-cases, and-parts, ltb-true, eqb-true, lt-
 use Rattle.std.proofs.shelf.Ways.{tells}
 use Rattle.algebra.specs.Digits.{pack, digit, total}
 use Rattle.algebra.specs.Marks.{Mark, put, nonzero, weight}
-use Rattle.algebra.specs.Rankings.{Ranking, Ranks, filled, first, costOf, byCost, plain, byWeight}
+use Rattle.algebra.specs.Rankings.{MarkRanking, Ranks, filled, first, costOf, byCost, plain, byWeight}
 use Rattle.algebra.specs.Symbols.{Symbols, Lawful}
 use Rattle.algebra.proofs.Digits.{digit-symbol, mod-below, mod-digit, total-changed, total-same}
 use Rattle.algebra.proofs.Marks.{digit-fits, changed-put, put-below, put-digit}
@@ -96,7 +96,7 @@ module _ (n : ℕ) (S : Symbols) (lawful : Lawful S) (i a : ℕ) (inside : i < n
       omega (arith, put-number n v i (S .sum (digit v i) a) h inside (sum-below v))
 
 module _ (n : ℕ) (weighs : Bool) (cost : ℕ → ℕ) (least : 1 ≤ n) (most : n ≤ 24) (ones : weighs ≡ true → (i : ℕ) → i < n → cost i ≡ 1) where
-  abbrev R : Ranking
+  abbrev R : MarkRanking
   R = byCost n weighs cost
 
   -- of marks of n places the number counts as it is

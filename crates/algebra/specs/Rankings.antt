@@ -9,7 +9,7 @@ use Rattle.algebra.specs.Marks.{Mark, put, nonzero, weight}
 use Rattle.algebra.specs.Symbols.{Symbols, Lawful}
 
 -- a length, whether it is by weight, and which of two mark numbers ranks before the other
-pub record Ranking : Type 0 where
+pub record MarkRanking : Type 0 where
   pub n : ℕ
   pub byWeight : Bool
   pub before : ℕ → ℕ → Bool
@@ -19,7 +19,7 @@ abbrev pub filled : Symbols → ℕ → ℕ → ℕ → ℕ → ℕ
 filled S n u i a = put n u i (S .sum (digit u i) a)
 
 -- The laws of every ranking, over the marks of every lawful alphabet; those of n places are the numbers below 4 ^ n.
-pub record Ranks (R : Ranking) : Type 0 where
+pub record Ranks (R : MarkRanking) : Type 0 where
   pub least : 1 ≤ R .n
   pub most : R .n ≤ 24
   pub reads-its-places : (u v : ℕ) → R .before u v ≡ R .before (u % 4 ^ R .n) (v % 4 ^ R .n)
@@ -40,24 +40,24 @@ abbrev pub costOf : ℕ → (ℕ → ℕ) → ℕ → ℕ
 costOf n cost u = total n (λ i. nonzero (digit u i) * cost i)
 
 -- the smaller sum of costs ranks first, then the smaller number
-abbrev pub byCost : ℕ → Bool → (ℕ → ℕ) → Ranking
+abbrev pub byCost : ℕ → Bool → (ℕ → ℕ) → MarkRanking
 byCost n byWeight cost = record {
   n = n;
   byWeight = byWeight;
   before = λ u v. first (costOf n cost u) (costOf n cost v) (u % 4 ^ n) (v % 4 ^ n);
 }
 
-abbrev pub plain : ℕ → Ranking
+abbrev pub plain : ℕ → MarkRanking
 plain n = byCost n false (λ _. 0)
 
-abbrev pub byWeight : ℕ → Ranking
+abbrev pub byWeight : ℕ → MarkRanking
 byWeight n = byCost n true (λ _. 1)
 
 -- a mark turned end for end
 abbrev pub mirrored : ℕ → ℕ → ℕ
 mirrored n u = pack 4 n (λ i. digit u (n - 1 - i))
 
-abbrev pub mirror : Ranking → Ranking
+abbrev pub mirror : MarkRanking → MarkRanking
 mirror R = record {
   n = R .n;
   byWeight = R .byWeight;
@@ -68,7 +68,7 @@ mirror R = record {
 abbrev pub wiped : ℕ → (ℕ → ℕ) → ℕ → ℕ
 wiped n gone u = pack 4 n (λ i. cond (eqb (gone i) 0) (digit u i) 0)
 
-abbrev pub erased : (ℕ → ℕ) → Ranking → Ranking
+abbrev pub erased : (ℕ → ℕ) → MarkRanking → MarkRanking
 erased gone R = record {
   n = R .n;
   byWeight = R .byWeight && eqb (total (R .n) gone) 0;
