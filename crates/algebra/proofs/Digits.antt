@@ -174,3 +174,15 @@ total-changed (suc n) (suc i) g d b h =
     let rest : total n (λ j. g (suc j) (cond (eqb (suc j) (suc i)) b (d (suc j)))) ≡ total n (λ j. g (suc j) (cond (eqb j i) b (d (suc j)))) =
     total-same n _ _ (λ j _. ap (λ t. g (suc j) (cond t b (d (suc j)))) (eqb-suc j i))
     in omega (arith, total-changed n i (λ j. g (suc j)) (λ j. d (suc j)) b (omega arith))
+
+pub total-zeros : (n : ℕ) (f : ℕ → ℕ) → ((i : ℕ) → i < n → f i ≡ 0) → total n f ≡ 0
+unfolding total
+total-zeros zero f h = refl
+total-zeros (suc n) f h = omega (arith, h 0 (omega arith), total-zeros n (λ i. f (suc i)) (λ i k. h (suc i) (omega arith)))
+
+-- terms that are 0 add nothing
+pub total-extended : (n m : ℕ) (f : ℕ → ℕ) → ((i : ℕ) → n ≤ i → f i ≡ 0) → n ≤ m → total m f ≡ total n f
+unfolding total
+total-extended zero m f h k = total-zeros m f (λ i _. h i zero-le)
+total-extended (suc n) zero f h k = absurd (omega arith)
+total-extended (suc n) (suc m) f h k = omega (arith, total-extended n m (λ i. f (suc i)) (λ i l. h (suc i) (suc-le-suc l)) (omega arith))

@@ -4,3 +4,4 @@ pub mod Marks
 pub mod Checks
 pub mod Rankings
 pub mod Layers
+pub mod Padded

@@ -4,7 +4,7 @@ use mathlib.Core.Bool.{Bool, true, false, cond}
 use mathlib.Core.List.{List, [], _∷_, map}
 use mathlib.Core.Logic.{_⊎_, inl, inr}
 use Prim.Native.Nat.{ℕ, zero, suc, _+_, _-_, _*_, _/_, _%_, _^_, _<_, _≤_, zero-le, suc-le-suc}
-use native.Mathlib.Nat.{add-comm, mul-assoc, mul-comm, pow-succ'}
+use native.Mathlib.Nat.{add-comm, mul-assoc, mul-comm, zero-mul, pow-succ', pow-le-pow-right}
 use native.Mathlib.Omega.{arith}
 use lib.Bits.{bitAnd, bitOr, and-block, or-block, and-mask, and-zero-r, or-lt, or-mod}
 use lib.Count.{ones, onesIn, ones-cat}
@@ -16,7 +16,7 @@ use Rattle.std.proofs.shelf.Tests.{cond-false, cond-both, ne-eqb}
 use Rattle.algebra.specs.Digits.{pack, digit, total}
 use Rattle.algebra.specs.Marks.{numberOf, bytesOf, put, plus, minus, weight, nonzero}
 use Rattle.algebra.specs.Symbols.{Symbols, Lawful}
-use Rattle.algebra.proofs.Digits.{eqb-suc, digit-first, digit-rest, digit-symbol, digit-past, digit-joined-first, digit-joined-rest, same-digits, pack-below, pack-digit, pack-same, pack-digits, pack-fits, total-same}
+use Rattle.algebra.proofs.Digits.{eqb-suc, digit-first, digit-rest, digit-symbol, digit-past, digit-joined-first, digit-joined-rest, same-digits, pack-below, pack-digit, pack-same, pack-digits, pack-fits, pack-more, total-same}
 
 -- bytes that spell symbols come back from the number
 pub bytes-back : (n : ℕ) (bytes : List ℕ) → length bytes ≡ n → ((i : ℕ) → i < n → getD bytes i 0 < 4) → bytesOf n (numberOf bytes) ≡ bytes
@@ -105,6 +105,14 @@ pub put-past : (n u i a : ℕ) → u < 4 ^ n → n ≤ i → put n u i a ≡ u
 put-past n u i a h k =
     pack-same 4 n (λ j. cond (eqb j i) a (digit u j)) (digit u) (λ j l. cond-false (eqb j i) a (digit u j) (ne-eqb j i (omega arith)))
     ∙ pack-digits n u h
+
+-- a number is packed by putting one digit after the other
+pub put-next : (n i : ℕ) (f : ℕ → ℕ) → i < n → ((j : ℕ) → j < i + 1 → f j < 4) → put n (pack 4 i f) i (f i) ≡ pack 4 (i + 1) f
+put-next n i f h small =
+    let packed : pack 4 i f < 4 ^ i = pack-below 4 i f (λ j k. small j (omega arith)) in
+    let short : pack 4 i f < 4 ^ n = omega (arith, pow-le-pow-right {n = 4} (omega arith) {i = i} {j = n} (omega arith)) in
+    let blank : digit (pack 4 i f) i * 4 ^ i ≡ 0 = ap (λ d. d * 4 ^ i) (digit-past i (pack 4 i f) i packed (omega arith)) ∙ zero-mul (4 ^ i) in
+    omega (arith, changed-put n (pack 4 i f) i (f i) (small i (omega arith)) h short, pack-more 4 i f)
 
 -- sums and differences of marks lie within 64 bits
 pub plus-fits : (S : Symbols) → Lawful S → (n u v : ℕ) → n ≤ 32 → plus S n u v < 2 ^ 64

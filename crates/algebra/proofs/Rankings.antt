@@ -3,7 +3,7 @@ use mathlib.Core.Path.{_≡_, refl, sym, ap, ap₂, _∙_, subst}
 use mathlib.Core.Bool.{Bool, true, false, cond, _&&_, _||_}
 use mathlib.Core.Logic.{_⊎_, inl, inr}
 use Prim.Native.Nat.{ℕ, zero, suc, _+_, _-_, _*_, _%_, _^_, _≤_, _<_, zero-le}
-use native.Mathlib.Nat.{add-mul, mod-eq-of-lt, mul-one, zero-mul, one-mul, mul-le-mul-right, pow-le-pow-right}
+use native.Mathlib.Nat.{add-mul, mod-eq-of-lt, mul-one, mul-zero, zero-mul, one-mul, mul-le-mul-right, pow-le-pow-right}
 use native.Mathlib.Omega.{arith}
 use lib.Dec.{eqb, ltb}
 use Rattle.std.proofs.shelf.Tests.{or-cases, and-parts, ltb-true, eqb-true, lt-ltb, eq-eqb, ne-eqb, cond-true, cond-false, cases-order, cases-lt, or-left, or-right, and-from, true≢false}
@@ -12,7 +12,7 @@ use Rattle.algebra.specs.Digits.{pack, digit, total}
 use Rattle.algebra.specs.Marks.{Mark, put, nonzero, weight}
 use Rattle.algebra.specs.Rankings.{MarkRanking, Ranks, filled, first, costOf, byCost, plain, byWeight}
 use Rattle.algebra.specs.Symbols.{Symbols, Lawful}
-use Rattle.algebra.proofs.Digits.{digit-symbol, mod-below, mod-digit, total-changed, total-same}
+use Rattle.algebra.proofs.Digits.{digit-past, mod-below, mod-digit, total-changed, total-extended, total-more, total-same, total-zeros}
 use Rattle.algebra.proofs.Marks.{digit-fits, changed-put, put-below, put-digit}
 
 -- the order of pairs
@@ -27,7 +27,7 @@ pub first-holds : (a b u v : ℕ) → (a < b) ⊎ ((a ≡ b) × (u < v)) → fir
 first-holds a b u v (inl h) = or-left (ltb a b) _ (lt-ltb a b h)
 first-holds a b u v (inr h) = or-right (ltb a b) _ (and-from (eqb a b) (ltb u v) (eq-eqb a b (h .0)) (lt-ltb u v (h .1)))
 
-same-first : (a a′ b b′ u u′ v v′ : ℕ) → a ≡ a′ → b ≡ b′ → u ≡ u′ → v ≡ v′ → first a b u v ≡ first a′ b′ u′ v′
+pub same-first : (a a′ b b′ u u′ v v′ : ℕ) → a ≡ a′ → b ≡ b′ → u ≡ u′ → v ≡ v′ → first a b u v ≡ first a′ b′ u′ v′
 same-first a a′ b b′ u u′ v v′ p q r s = ap₂ (λ x y. first x y u v) p q ∙ ap₂ (first a′ b′) r s
 
 -- at most as much in front, and less behind
@@ -178,3 +178,26 @@ weight-ranks n least most = byCost-ranks n true (λ _. 1) least most (λ _ _ _. 
 
 pub cost-ranks : (n : ℕ) (cost : ℕ → ℕ) → 1 ≤ n → n ≤ 24 → Ranks (byCost n false cost)
 cost-ranks n cost least most = byCost-ranks n false cost least most (λ h. absurd (true≢false (sym h)))
+
+-- the sums that the rules plain and weight compare
+pub free-cost : (n u : ℕ) → costOf n (λ _. 0) u ≡ 0
+free-cost n u = total-zeros n _ (λ i _. mul-zero (nonzero (digit u i)))
+
+pub weight-cost : (n u : ℕ) → n ≤ 32 → weight 32 (u % 4 ^ n) ≡ costOf n (λ _. 1) u
+weight-cost n u h =
+    total-extended n 32 _ (λ i k. nonzero-zero (digit (u % 4 ^ n) i) (digit-past n (u % 4 ^ n) i (mod-below n u) k)) h
+    ∙ total-same n _ _ (λ i k. ap nonzero (mod-digit n u i k) ∙ sym (mul-one (nonzero (digit u i))))
+
+-- a sum of costs, one place more: the cost counts where the symbol is not 0
+pub cost-more : (n : ℕ) (cost : ℕ → ℕ) (u : ℕ) → 0 < digit u n → costOf (n + 1) cost u ≡ costOf n cost u + cost n
+cost-more n cost u h =
+    let here : nonzero (digit u n) * cost n ≡ cost n = ap (λ x. x * cost n) (nonzero-one (digit u n) h) ∙ one-mul (cost n) in
+    omega (arith, total-more n (λ i. nonzero (digit u i) * cost i))
+
+pub cost-same : (n : ℕ) (cost : ℕ → ℕ) (u : ℕ) → digit u n ≡ 0 → costOf (n + 1) cost u ≡ costOf n cost u
+cost-same n cost u h =
+    let here : nonzero (digit u n) * cost n ≡ 0 = ap (λ x. x * cost n) (nonzero-zero (digit u n) h) ∙ zero-mul (cost n) in
+    omega (arith, total-more n (λ i. nonzero (digit u i) * cost i))
+
+pub costs-alike : (n : ℕ) (cost cost′ : ℕ → ℕ) (u : ℕ) → ((i : ℕ) → i < n → cost i ≡ cost′ i) → costOf n cost u ≡ costOf n cost′ u
+costs-alike n cost cost′ u h = total-same n _ _ (λ i k. ap (λ c. nonzero (digit u i) * c) (h i k))

@@ -1,5 +1,4 @@
 pub mod FirstRefusal
-pub mod Padded
 pub mod Limits
 pub mod Layouts
 pub mod Readings

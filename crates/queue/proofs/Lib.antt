@@ -1,0 +1,2 @@
+mod Contents
+mod Heaps

@@ -1,0 +1,3 @@
+pub mod Orders
+pub mod Packing
+pub mod Above
