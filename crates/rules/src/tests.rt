@@ -51,7 +51,7 @@ fn a_mirror_turns_ties_round() -> Result<(), Fail> {
     let rule = Mirror {
         below: Weight::new(6)?,
     };
-    // 010010 is 001010 turned, 260 is 010010 and 65 is 100100.
+    // 65 is 100100, which turned is 001001, 1040; 260 is 010010, which turned is itself.
     check(rule.before(260, 65) && !rule.before(65, 260))?;
     check(rule.is_by_weight() && rule.places() == 6)?;
     let twice = Mirror { below: rule };
