@@ -1,4 +1,5 @@
--- "Smaller sum of costs, then smaller number" is a lawful ranking, whatever the costs: plain, weight and cost are.
+-- "Smaller sum over the places, then smaller number" is a lawful ranking, whatever each place counts within `Counts`: plain, weight
+-- and cost are.
 use mathlib.Core.Path.{_≡_, refl, sym, ap, ap₂, _∙_, subst}
 use mathlib.Core.Bool.{Bool, true, false, cond, _&&_, _||_}
 use mathlib.Core.Logic.{_⊎_, inl, inr}
@@ -10,7 +11,7 @@ use Rattle.std.proofs.shelf.Tests.{or-cases, and-parts, ltb-true, eqb-true, lt-
 use Rattle.std.proofs.shelf.Ways.{tells}
 use Rattle.algebra.specs.Digits.{pack, digit, total}
 use Rattle.algebra.specs.Marks.{Mark, put, nonzero, weight}
-use Rattle.algebra.specs.Rankings.{MarkRanking, Ranks, filled, first, costOf, byCost, plain, byWeight}
+use Rattle.algebra.specs.Rankings.{MarkRanking, Ranks, filled, first, measure, byMeasure, costShare, costOf, byCost, plain, byWeight}
 use Rattle.algebra.specs.Symbols.{Symbols, Lawful}
 use Rattle.algebra.proofs.Digits.{digit-past, mod-below, mod-digit, total-changed, total-extended, total-more, total-same, total-zeros}
 use Rattle.algebra.proofs.Marks.{digit-fits, changed-put, put-below, put-digit}
@@ -46,9 +47,6 @@ first-transitive a b c u v w h k = grind (arith, tells)
 -- 0 weighs nothing, and every other symbol 1
 pub nonzero-zero : (a : ℕ) → a ≡ 0 → nonzero a ≡ 0
 nonzero-zero a h = cond-true (eqb a 0) 0 1 (eq-eqb a 0 h)
-
-nonzero-most : (a : ℕ) → nonzero a ≤ 1
-nonzero-most a = grind (arith, tells)
 
 pub nonzero-one : (a : ℕ) → 0 < a → nonzero a ≡ 1
 nonzero-one a h = cond-false (eqb a 0) 0 1 (ne-eqb a 0 (omega arith))
@@ -95,89 +93,100 @@ module _ (n : ℕ) (S : Symbols) (lawful : Lawful S) (i a : ℕ) (inside : i < n
       let here : S .sum (digit v i) a * 4 ^ i ≡ a * 4 ^ i = ap (λ x. x * 4 ^ i) (filled-blank v blank) in
       omega (arith, put-number n v i (S .sum (digit v i) a) h inside (sum-below v))
 
-module _ (n : ℕ) (weighs : Bool) (cost : ℕ → ℕ) (least : 1 ≤ n) (most : n ≤ 24) (ones : weighs ≡ true → (i : ℕ) → i < n → cost i ≡ 1) where
+-- A place that holds 0 counts nothing, and one filled up at most what it held and what was added.
+pub record Counts (n : ℕ) (share : ℕ → ℕ → ℕ) : Type 0 where
+  pub nothing : (i : ℕ) → i < n → share i 0 ≡ 0
+  pub at-most : (i s a t : ℕ) → i < n → t ≤ s + a → share i t ≤ share i s + share i a
+
+module _ (n : ℕ) (weighs : Bool) (share : ℕ → ℕ → ℕ) (least : 1 ≤ n) (most : n ≤ 24) (counts : Counts n share)
+    (weight-is : weighs ≡ true → (u : ℕ) → measure n share u ≡ weight n u) where
   abbrev R : MarkRanking
-  R = byCost n weighs cost
+  R = byMeasure n weighs share
 
   -- of marks of n places the number counts as it is
   number : (u : ℕ) → u < 4 ^ n → u % 4 ^ n ≡ u
   number u h = mod-eq-of-lt h
 
-  cost-mod : (u : ℕ) → costOf n cost (u % 4 ^ n) ≡ costOf n cost u
-  cost-mod u = total-same n _ _ (λ i h. ap (λ d. nonzero d * cost i) (mod-digit n u i h))
+  measure-mod : (u : ℕ) → measure n share (u % 4 ^ n) ≡ measure n share u
+  measure-mod u = total-same n _ _ (λ i h. ap (share i) (mod-digit n u i h))
 
-  cost-put : (u i b : ℕ) → u < 4 ^ n → i < n → b < 4 → costOf n cost (put n u i b) + nonzero (digit u i) * cost i ≡ costOf n cost u + nonzero b * cost i
-  cost-put u i b h k l = put-total n u i b h k l (λ j d. nonzero d * cost j)
+  measure-put : (u i b : ℕ) → u < 4 ^ n → i < n → b < 4 → measure n share (put n u i b) + share i (digit u i) ≡ measure n share u + share i b
+  measure-put u i b h k l = put-total n u i b h k l share
 
-  by-pair : (u v : ℕ) → u < 4 ^ n → v < 4 ^ n → (costOf n cost u < costOf n cost v) ⊎ ((costOf n cost u ≡ costOf n cost v) × (u < v)) → R .before u v ≡ true
+  none : (u i : ℕ) → i < n → digit u i ≡ 0 → share i (digit u i) ≡ 0
+  none u i k e = ap (share i) e ∙ counts .nothing i k
+
+  by-pair : (u v : ℕ) → u < 4 ^ n → v < 4 ^ n → (measure n share u < measure n share v) ⊎ ((measure n share u ≡ measure n share v) × (u < v)) → R .before u v ≡ true
   by-pair u v h k (inl l) = first-holds _ _ _ _ (inl l)
   by-pair u v h k (inr l) = first-holds _ _ _ _ (inr (l .0, omega (arith, number u h, number v k, l .1)))
 
-  at-most : (u v : ℕ) → u < 4 ^ n → v < 4 ^ n → costOf n cost u ≤ costOf n cost v → u < v → R .before u v ≡ true
+  at-most : (u v : ℕ) → u < 4 ^ n → v < 4 ^ n → measure n share u ≤ measure n share v → u < v → R .before u v ≡ true
   at-most u v h k l m = first-at-most _ _ _ _ l (omega (arith, number u h, number v k))
 
   zero-first : (u i a : ℕ) → u < 4 ^ n → i < n → digit u i ≡ 0 → 0 < a → a < 4 → R .before u (put n u i a) ≡ true
-  zero-first u i a h k e p l =
-      let old : nonzero (digit u i) * cost i ≡ 0 = ap (λ x. x * cost i) (nonzero-zero (digit u i) e) ∙ zero-mul (cost i) in
-      at-most u (put n u i a) h (put-below n u i a l) (omega (arith, cost-put u i a h k l)) (put-more n u i a h k e p l)
+  zero-first u i a h k e p l = at-most u (put n u i a) h (put-below n u i a l) (omega (arith, measure-put u i a h k l, none u i k e)) (put-more n u i a h k e p l)
 
-  -- filling a place costs at most the place's cost, and exactly that where it was 0
+  -- filling a place adds at most the symbol's share, and exactly that where it was 0
   module _ (S : Symbols) (lawful : Lawful S) (i a : ℕ) (inside : i < n) (some : 0 < a) (symbol : a < S .q) where
-    filled-cost : (u : ℕ) → u < 4 ^ n → costOf n cost (filled S n u i a) ≤ costOf n cost u + cost i
-    filled-cost u h =
+    filled-measure : (u : ℕ) → u < 4 ^ n → measure n share (filled S n u i a) ≤ measure n share u + share i a
+    filled-measure u h =
         let b : ℕ = S .sum (digit u i) a in
-        let most-new : nonzero b * cost i ≤ 1 * cost i = mul-le-mul-right (cost i) (nonzero-most b) in
-        omega (arith, cost-put u i b h inside (sum-below n S lawful i a inside some symbol u), one-mul (cost i))
+        omega (arith, measure-put u i b h inside (sum-below n S lawful i a inside some symbol u), counts .at-most i (digit u i) a b inside (lawful .sum-at-most (digit u i) a))
 
-    filled-blank-cost : (v : ℕ) → v < 4 ^ n → digit v i ≡ 0 → costOf n cost (filled S n v i a) ≡ costOf n cost v + cost i
-    filled-blank-cost v h blank =
+    filled-blank-measure : (v : ℕ) → v < 4 ^ n → digit v i ≡ 0 → measure n share (filled S n v i a) ≡ measure n share v + share i a
+    filled-blank-measure v h blank =
         let b : ℕ = S .sum (digit v i) a in
-        let old : nonzero (digit v i) * cost i ≡ 0 = ap (λ x. x * cost i) (nonzero-zero (digit v i) blank) ∙ zero-mul (cost i) in
-        let here : nonzero b * cost i ≡ cost i =
-        ap (λ x. x * cost i) (ap nonzero (filled-blank n S lawful i a inside some symbol v blank) ∙ nonzero-one a some) ∙ one-mul (cost i)
-        in
-        omega (arith, cost-put v i b h inside (sum-below n S lawful i a inside some symbol v))
+        let here : share i b ≡ share i a = ap (share i) (filled-blank n S lawful i a inside some symbol v blank) in
+        omega (arith, measure-put v i b h inside (sum-below n S lawful i a inside some symbol v), none v i inside blank)
 
   filling-keeps : (S : Symbols) → Lawful S → (u v i a : ℕ) → Mark S n u → Mark S n v → R .before u v ≡ true
       → i < n → digit v i ≡ 0 → 0 < a → a < S .q → R .before (filled S n u i a) (filled S n v i a) ≡ true
   filling-keeps S lawful u v i a mu mv before inside blank some symbol = go (first-tells _ _ _ _ before)
     where
-      cost-u : costOf n cost (filled S n u i a) ≤ costOf n cost u + cost i
-      cost-u = filled-cost S lawful i a inside some symbol u (mu .short)
+      more-u : measure n share (filled S n u i a) ≤ measure n share u + share i a
+      more-u = filled-measure S lawful i a inside some symbol u (mu .short)
 
-      cost-v : costOf n cost (filled S n v i a) ≡ costOf n cost v + cost i
-      cost-v = filled-blank-cost S lawful i a inside some symbol v (mv .short) blank
+      more-v : measure n share (filled S n v i a) ≡ measure n share v + share i a
+      more-v = filled-blank-measure S lawful i a inside some symbol v (mv .short) blank
 
-      go : (costOf n cost u < costOf n cost v) ⊎ ((costOf n cost u ≡ costOf n cost v) × (u % 4 ^ n < v % 4 ^ n)) → R .before (filled S n u i a) (filled S n v i a) ≡ true
-      go (inl h) = by-pair _ _ (filled-below n S lawful i a inside some symbol u) (filled-below n S lawful i a inside some symbol v) (inl (omega (arith, cost-u, cost-v)))
+      go : (measure n share u < measure n share v) ⊎ ((measure n share u ≡ measure n share v) × (u % 4 ^ n < v % 4 ^ n)) → R .before (filled S n u i a) (filled S n v i a) ≡ true
+      go (inl h) = by-pair _ _ (filled-below n S lawful i a inside some symbol u) (filled-below n S lawful i a inside some symbol v) (inl (omega (arith, more-u, more-v)))
       go (inr h) =
-          at-most _ _ (filled-below n S lawful i a inside some symbol u) (filled-below n S lawful i a inside some symbol v) (omega (arith, cost-u, cost-v, h .0))
+          at-most _ _ (filled-below n S lawful i a inside some symbol u) (filled-below n S lawful i a inside some symbol v) (omega (arith, more-u, more-v, h .0))
           (omega (arith, filled-number n S lawful i a inside some symbol u (mu .short), filled-blank-number n S lawful i a inside some symbol v (mv .short) blank, h .1, number u (mu .short), number v (mv .short)))
 
-  cost-weight : weighs ≡ true → (u : ℕ) → costOf n cost u ≡ weight n u
-  cost-weight w u = total-same n _ _ (λ i h. ap (λ c. nonzero (digit u i) * c) (ones w i h) ∙ mul-one (nonzero (digit u i)))
-
-  pub byCost-ranks : Ranks (byCost n weighs cost)
-  byCost-ranks = record {
+  pub byMeasure-ranks : Ranks (byMeasure n weighs share)
+  byMeasure-ranks = record {
     least = least;
     most = most;
-    reads-its-places = λ u v. sym (same-first _ _ _ _ _ _ _ _ (cost-mod u) (cost-mod v) (number _ (mod-below n u)) (number _ (mod-below n v)));
-    never-both = λ u v h. first-one-way (costOf n cost u) (costOf n cost v) (u % 4 ^ n) (v % 4 ^ n) h;
-    some-way = λ u v h k l m. sym (number u h) ∙ first-some-way (costOf n cost u) (costOf n cost v) (u % 4 ^ n) (v % 4 ^ n) l m ∙ number v k;
-    transitive = λ u v w h k. first-transitive (costOf n cost u) (costOf n cost v) (costOf n cost w) (u % 4 ^ n) (v % 4 ^ n) (w % 4 ^ n) h k;
+    reads-its-places = λ u v. sym (same-first _ _ _ _ _ _ _ _ (measure-mod u) (measure-mod v) (number _ (mod-below n u)) (number _ (mod-below n v)));
+    never-both = λ u v h. first-one-way (measure n share u) (measure n share v) (u % 4 ^ n) (v % 4 ^ n) h;
+    some-way = λ u v h k l m. sym (number u h) ∙ first-some-way (measure n share u) (measure n share v) (u % 4 ^ n) (v % 4 ^ n) l m ∙ number v k;
+    transitive = λ u v w h k. first-transitive (measure n share u) (measure n share v) (measure n share w) (u % 4 ^ n) (v % 4 ^ n) (w % 4 ^ n) h k;
     zero-first = zero-first;
     filling-keeps = filling-keeps;
-    lighter-first = λ w u v h k l. by-pair u v h k (inl (omega (arith, cost-weight w u, cost-weight w v)));
+    lighter-first = λ w u v h k l. by-pair u v h k (inl (omega (arith, weight-is w u, weight-is w v)));
   }
 
-pub plain-ranks : (n : ℕ) → 1 ≤ n → n ≤ 24 → Ranks (plain n)
-plain-ranks n least most = byCost-ranks n false (λ _. 0) least most (λ h. absurd (true≢false (sym h)))
+-- whatever the costs
+nonzero-at-most : (s a t : ℕ) → t ≤ s + a → nonzero t ≤ nonzero s + nonzero a
+nonzero-at-most s a t h = grind (arith, tells)
 
-pub weight-ranks : (n : ℕ) → 1 ≤ n → n ≤ 24 → Ranks (byWeight n)
-weight-ranks n least most = byCost-ranks n true (λ _. 1) least most (λ _ _ _. refl)
+cost-counts : (n : ℕ) (cost : ℕ → ℕ) → Counts n (costShare cost)
+cost-counts n cost = record {
+  nothing = λ i _. zero-mul (cost i);
+  at-most = λ i s a t _ h. subst (λ x. nonzero t * cost i ≤ x) (add-mul (nonzero s) (nonzero a) (cost i)) (mul-le-mul-right (cost i) (nonzero-at-most s a t h));
+}
 
 pub cost-ranks : (n : ℕ) (cost : ℕ → ℕ) → 1 ≤ n → n ≤ 24 → Ranks (byCost n false cost)
-cost-ranks n cost least most = byCost-ranks n false cost least most (λ h. absurd (true≢false (sym h)))
+cost-ranks n cost least most = byMeasure-ranks n false (costShare cost) least most (cost-counts n cost) (λ h. absurd (true≢false (sym h)))
+
+pub plain-ranks : (n : ℕ) → 1 ≤ n → n ≤ 24 → Ranks (plain n)
+plain-ranks n least most = cost-ranks n (λ _. 0) least most
+
+pub weight-ranks : (n : ℕ) → 1 ≤ n → n ≤ 24 → Ranks (byWeight n)
+weight-ranks n least most =
+    byMeasure-ranks n true (costShare (λ _. 1)) least most (cost-counts n (λ _. 1)) (λ _ u. total-same n _ _ (λ i _. mul-one (nonzero (digit u i))))
 
 -- the sums that the rules plain and weight compare
 pub free-cost : (n u : ℕ) → costOf n (λ _. 0) u ≡ 0

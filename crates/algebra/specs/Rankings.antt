@@ -35,17 +35,27 @@ pub record Ranks (R : MarkRanking) : Type 0 where
 abbrev pub first : ℕ → ℕ → ℕ → ℕ → Bool
 first a b u v = ltb a b || (eqb a b && ltb u v)
 
--- the sum of the costs of the nonzero places
-abbrev pub costOf : ℕ → (ℕ → ℕ) → ℕ → ℕ
-costOf n cost u = total n (λ i. nonzero (digit u i) * cost i)
+-- the sum over a mark's places of what each place makes of its symbol
+abbrev pub measure : ℕ → (ℕ → ℕ → ℕ) → ℕ → ℕ
+measure n share u = total n (λ i. share i (digit u i))
 
--- the smaller sum of costs ranks first, then the smaller number
-abbrev pub byCost : ℕ → Bool → (ℕ → ℕ) → MarkRanking
-byCost n byWeight cost = record {
+-- the smaller sum ranks first, then the smaller number
+abbrev pub byMeasure : ℕ → Bool → (ℕ → ℕ → ℕ) → MarkRanking
+byMeasure n byWeight share = record {
   n = n;
   byWeight = byWeight;
-  before = λ u v. first (costOf n cost u) (costOf n cost v) (u % 4 ^ n) (v % 4 ^ n);
+  before = λ u v. first (measure n share u) (measure n share v) (u % 4 ^ n) (v % 4 ^ n);
 }
+
+-- the cost of a place, where its symbol is not 0
+abbrev pub costShare : (ℕ → ℕ) → ℕ → ℕ → ℕ
+costShare cost i d = nonzero d * cost i
+
+abbrev pub costOf : ℕ → (ℕ → ℕ) → ℕ → ℕ
+costOf n cost u = measure n (costShare cost) u
+
+abbrev pub byCost : ℕ → Bool → (ℕ → ℕ) → MarkRanking
+byCost n byWeight cost = byMeasure n byWeight (costShare cost)
 
 abbrev pub plain : ℕ → MarkRanking
 plain n = byCost n false (λ _. 0)

@@ -7,18 +7,22 @@ ghost use Rattle.algebra.specs.Rankings.{first, costOf, plain, byWeight, byCost
 ghost use Rattle.rules.specs.Making.{Made, sizeRefusal};
 use crate::rule::Rule;
 use marks::mark::Mark;
+use marks::mark::PLACES;
 use queue::ranking::Ranking;
 use refusals::Refusal;
 
 // The first n places of a mark, and nothing past them.
-pub(crate) fn low(number: u64, n: usize) -> u64
-    requires { ⌜ n ≤ 24 ⌝ }
+pub fn low(number: u64, n: usize) -> u64
     ensures { λ r. ⌜ r ≡ number % 4 ^ n ⌝ }
 {
+    if n >= PLACES {
+        return number;
+    }
     number & ((1 << (2 * n)) - 1)
 }
 
-pub(crate) fn is_first(a: u32, b: u32, u: u64, v: u64) -> bool
+// The smaller of a and b first, and where they are equal the smaller of u and v.
+pub fn is_first(a: u32, b: u32, u: u64, v: u64) -> bool
     ensures { λ r. ⌜ r ≡ first a b u v ⌝ }
 {
     a < b || a == b && u < v

@@ -15,6 +15,7 @@ use crate::layers::Mirror;
 use crate::layers::MirrorRanking;
 use crate::layers::MirrorRule;
 use crate::rule::Rule;
+use queue::queue::Queue;
 use queue::ranking::Ranking;
 use refusals::Refusal;
 use refusals::RefusalDebug;
@@ -79,4 +80,19 @@ fn erased_places_do_not_count() -> Result<(), Fail> {
 fn lengths_are_from_1_to_24() -> Result<(), Fail> {
     check(Plain::new(0).is_err() && Plain::new(25).is_err() && Plain::new(24).is_ok())?;
     check(Weight::new(0).is_err() && Weight::new(25).is_err() && Weight::new(1).is_ok())
+}
+
+#[test]
+fn a_queue_takes_marks_by_a_rule() -> Result<(), Fail> {
+    let rule = Weight::new(6)?;
+    let mut places = [0; 3];
+    let mut queue = Queue::new(&mut places);
+    queue.put(&rule, 257)?;
+    queue.put(&rule, 68)?;
+    queue.put(&rule, 1024)?;
+    check_eq(queue.put(&rule, 0), Err(Refusal::QueueFull))?;
+    check_eq(queue.take(&rule), Some(1024))?;
+    check_eq(queue.take(&rule), Some(68))?;
+    check_eq(queue.take(&rule), Some(257))?;
+    check_eq(queue.take(&rule), None)
 }
