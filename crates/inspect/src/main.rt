@@ -1,9 +1,10 @@
 // Shows the sizes of a check table file, and for each line of input its check values and whether it is lawful.
 ghost use mathlib.Core.List.{map};
 ghost use mathlib.Core.Path.{_≡_};
+ghost use Prim.Native.Nat.{_+_, _<_};
 ghost use Rattle.algebra.specs.Checks.{checkValue};
 ghost use Rattle.checkfile.specs.Contents.{checksOf};
-ghost use Rattle.inspect.specs.Inspection.{valuesOf, inspected};
+ghost use Rattle.inspect.specs.Inspection.{valuesOf, symbolsOf, inspected};
 ghost use Rattle.std.specs.Of.String.{string-bytes};
 ghost use Rattle.std.specs.Of.Vec.{vec-items};
 ghost use Rattle.std.specs.Vec.{made};
@@ -61,7 +62,7 @@ fn check_values<A: Alphabet>(
     Ok(values)
 }
 
-fn inspect_line<A: Alphabet>(
+fn line_over<A: Alphabet>(
     heap: Global,
     alphabet: &A,
     code: &Code,
@@ -81,14 +82,27 @@ fn inspect_line<A: Alphabet>(
     }
 }
 
-fn inspect_lines<A: Alphabet>(
-    rt: &LibcRuntime,
-    alphabet: &A,
+// The report of a line, which is counted from 0, over the alphabet that has as many symbols as the code.
+fn inspect_line(
+    heap: Global,
     code: &Code,
-    input: &[u8],
-) -> Result<(), AnyError> {
-    for (line, characters) in Lines::new(input).enumerate().take(MOST_LINES) {
-        rt.println(inspect_line(rt.alloc(), alphabet, code, line + 1, characters)?)?;
+    index: usize,
+    characters: &[u8],
+) -> Result<String, AllocError>
+    requires { ⌜ index < 1000 ⌝ }
+    ensures { λ r. ⌜ made r (λ text. string-bytes text ≡ inspected (symbolsOf (now (code .entry) .q)) (checksOf (now (code .entry))) (index + 1) (now (characters .entry))) ⌝ }
+{
+    let line = index + 1;
+    match code.q() {
+        2 => line_over(heap, &Bits, code, line, characters),
+        3 => line_over(heap, &Thirds, code, line, characters),
+        _ => line_over(heap, &Quads, code, line, characters),
+    }
+}
+
+fn inspect_lines(rt: &LibcRuntime, code: &Code, input: &[u8]) -> Result<(), AnyError> {
+    for (index, characters) in Lines::new(input).enumerate().take(MOST_LINES) {
+        rt.println(inspect_line(rt.alloc(), code, index, characters)?)?;
     }
     Ok(())
 }
@@ -113,11 +127,7 @@ fn run(rt: &LibcRuntime) -> Result<(), AnyError> {
     let rule = rule_name(reading.rule.kind());
     rt.println(table_line(heap, code.q(), code.n(), code.r(), rule)?)?;
     let input = first_lines(heap, &mut BufReader::new(rt.stdin()), MOST_LINES)?;
-    match code.q() {
-        2 => inspect_lines(rt, &Bits, code, input.as_slice()),
-        3 => inspect_lines(rt, &Thirds, code, input.as_slice()),
-        _ => inspect_lines(rt, &Quads, code, input.as_slice()),
-    }
+    inspect_lines(rt, code, input.as_slice())
 }
 
 fn main(rt: LibcRuntime) -> Result<(), AnyError> {
