@@ -18,7 +18,7 @@ module _ {T : Type 0} where
   abbrev pub itemsOf : Queue T → List T
   itemsOf queue = take (queue .held) (placesOf queue)
 
-  -- no more is held than there are places
+  -- no more is held than there are places: so a queue is made, and every call keeps it
   abbrev pub Within : Queue T → Type 0
   Within queue = queue .held ≤ length (placesOf queue)
 

@@ -7,7 +7,7 @@ use lib.ListN.{length, getD}
 use Rattle.std.specs.Slices.{Shuffled}
 use Rattle.std.specs.shelf.Lists.{All}
 
--- A strict weak order: it goes one way, and what does not rank before passes through.
+-- A strict weak order: items that neither ranks before the other may differ.
 pub record Orders {T : Type 0} (before : T → T → Bool) : Type 0 where
   pub one-way : (a b : T) → before a b ≡ true → before b a ≡ false
   pub through : (a b c : T) → before a b ≡ false → before b c ≡ false → before a c ≡ false

@@ -10,7 +10,7 @@ use crate::sift::rise;
 use crate::sift::take_first;
 use refusals::Refusal;
 
-// The first `held` places hold the items, as a heap. The ranking comes with each call.
+// The first `held` places hold the items, as a heap under the ranking that comes with each call.
 #[derive(Drop)]
 pub struct Queue<'a, T> {
     places: &'a mut [T],

@@ -3,7 +3,7 @@ ghost use mathlib.Core.Bool.{Bool};
 ghost use mathlib.Core.Path.{_≡_};
 ghost use Rattle.queue.specs.Order.{Orders};
 
-// A strict weak order: items that neither ranks before the other may differ.
+// A ranking means its `before`, a strict weak order.
 pub trait Ranking<T> {
     ghost before: { Self → T → T → Bool };
 
