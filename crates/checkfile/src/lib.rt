@@ -1,4 +1,6 @@
 // Check table files: a code and the rule that the file names, read and written.
+#![tactic(auto)]
+
 pub mod code;
 mod fields;
 pub mod kind;

@@ -1,4 +1,6 @@
 // Shows the sizes of a check table file, and for each line of input its check values and whether it is lawful.
+#![tactic(auto)]
+
 ghost use Rattle.std.specs.Prelude.{◌≡◌, ◌+◌, ◌<◌, map, IfOk, string_bytes};
 ghost use Rattle.algebra.specs.Checks.{check_value};
 ghost use Rattle.checkfile.specs.Contents.{checks_of};

@@ -1,4 +1,6 @@
 // Why a call declines. `listed` gives each refusal its number, layer and place.
+#![tactic(auto)]
+
 ghost use Rattle.std.specs.Prelude.{◌≡◌};
 ghost use Rattle.refusals.specs.Refusals.{listed};
 

@@ -1,4 +1,6 @@
 // A rule as a library's own people would write it: the smaller sum of the symbols first, then the smaller number.
+#![tactic(auto)]
+
 ghost use Rattle.std.specs.Prelude.{◌≡◌, ◌≤◌, false, refl};
 ghost use Rattle.algebra.specs.Rankings.{measure, by_measure};
 ghost use Rattle.rules.specs.Making.{Made, size_refusal};
