@@ -51,7 +51,7 @@ fn pack(bytes: &[u8]) -> u64
 impl Mark {
     // The mark of n places that the bytes spell, one symbol each.
     pub fn read<A: Alphabet>(alphabet: &A, n: usize, bytes: &[u8]) -> Result<Mark, Refusal>
-        ensures value { result ≡ reading symbols n bytes.now }
+        ensures value { result ≡ reading A.symbols n bytes.now }
         ensures back { IfOk result (λ mark. bytes_of n mark.number ≡ bytes.now) }
     {
         if bytes.len() != n || n > PLACES {
@@ -106,7 +106,7 @@ impl Mark {
 
     // The sum of the first n places, of 32 at most.
     pub fn plus<A: Alphabet>(self, alphabet: &A, n: usize, other: Mark) -> Mark
-        ensures { result.number ≡ sum_of symbols (min n 32) self.number other.number }
+        ensures { result.number ≡ sum_of A.symbols (min n 32) self.number other.number }
     {
         let mut number = 0;
         for i in 0..n.min(PLACES) {
@@ -117,7 +117,7 @@ impl Mark {
 
     // The difference of the first n places, of 32 at most.
     pub fn minus<A: Alphabet>(self, alphabet: &A, n: usize, other: Mark) -> Mark
-        ensures { result.number ≡ difference_of symbols (min n 32) self.number other.number }
+        ensures { result.number ≡ difference_of A.symbols (min n 32) self.number other.number }
     {
         let mut number = 0;
         for i in 0..n.min(PLACES) {

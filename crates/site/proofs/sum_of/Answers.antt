@@ -7,8 +7,8 @@ pub loop-i-init : goal.loop-i-init
 unfolding total
 loop-i-init c = omega arith
 
-pub overflow-add-sum : goal.overflow-add-sum
-overflow-add-sum c = omega (arith, digit_symbol c.args.mark.number c.loop-i.i)
+pub overflow_add-sum : goal.overflow_add-sum
+overflow_add-sum c = omega (arith, digit_symbol c.args.mark.number c.loop-i.i)
 
 pub loop-i-preserved : goal.loop-i-preserved
 loop-i-preserved c =

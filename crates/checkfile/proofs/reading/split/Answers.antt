@@ -47,58 +47,58 @@ ruled c =
     let s = rw (before.2, before.1) at c.in-ok-kind.ensures.judged in
     (s.0, s.1.0, s.1.1, c.in-ok-kind.ensures.file ∙ before.2)
 
-pub returns-in-err-q : goal.returns-in-err-q
+pub returns-in_err-q : goal.returns-in_err-q
 unfolding tests
-returns-in-err-q c =
+returns-in_err-q c =
     let p = err_from_is_err_and c.from-residual.result c.from-residual.ensures.1 in
     let s = rw (c.new-reader.ensures.0, c.new-reader.ensures.1) at c.in-err-q.ensures.judged in
     judged_err (tests c.args.file.now) _ _ _ _ p.1 p.2 (first_here (count_tests c.args.file.now 0) _ _ s)
 
-pub returns-in-err-n : goal.returns-in-err-n
+pub returns-in_err-n : goal.returns-in_err-n
 unfolding tests
-returns-in-err-n c =
+returns-in_err-n c =
     let p = err_from_is_err_and c.from-residual-in-err-n.result c.from-residual-in-err-n.ensures.1 in
     let file = c.args.file.now in
-    let before = counted (goal.at.returns-in-err-n c).In-ok-q in
+    let before = counted (goal.at.returns-in_err-n c).In-ok-q in
     let s = rw (before.3, before.2, before.1) at c.in-err-n.ensures.judged in
     judged_err (tests file) _ _ _ _ p.1 p.2 (first_later (count_tests file 0) _ before.0 ∙ first_here (size_tests file 4 (count_at file)) _ _ s)
 
-pub returns-in-err-checks : goal.returns-in-err-checks
+pub returns-in_err-checks : goal.returns-in_err-checks
 unfolding tests
-returns-in-err-checks c =
+returns-in_err-checks c =
     let p = err_from_is_err_and c.from-residual-in-err-checks.result c.from-residual-in-err-checks.ensures.1 in
     let file = c.args.file.now in
-    let first = counted (goal.at.returns-in-err-checks c).In-ok-q in
-    let before = sized (goal.at.returns-in-err-checks c).In-ok-n in
+    let first = counted (goal.at.returns-in_err-checks c).In-ok-q in
+    let before = sized (goal.at.returns-in_err-checks c).In-ok-n in
     let s = rw (before.4, before.3, before.1, before.2, first.1) at c.in-err-checks.ensures.judged in
     judged_err (tests file) _ _ _ _ p.1 p.2
     (first_later (count_tests file 0) _ first.0 ∙ first_later (size_tests file 4 (count_at file)) _ before.0 ∙ first_here (check_tests file 9 (count_at file) (places_at file * rows_at file)) _ _ s)
 
-pub returns-in-err-kind : goal.returns-in-err-kind
+pub returns-in_err-kind : goal.returns-in_err-kind
 unfolding tests
-returns-in-err-kind c =
+returns-in_err-kind c =
     let p = err_from_is_err_and c.from-residual-in-err-kind.result c.from-residual-in-err-kind.ensures.1 in
     let file = c.args.file.now in
-    let before = checked (goal.at.returns-in-err-kind c).In-ok-checks in
+    let before = checked (goal.at.returns-in_err-kind c).In-ok-checks in
     let s = rw (before.2, before.1) at c.in-err-kind.ensures.judged in
     judged_err (tests file) _ _ _ _ p.1 p.2
-    (first_later (count_tests file 0) _ (counted (goal.at.returns-in-err-kind c).In-ok-q).0
-    ∙ first_later (size_tests file 4 (count_at file)) _ (sized (goal.at.returns-in-err-kind c).In-ok-n).0
+    (first_later (count_tests file 0) _ (counted (goal.at.returns-in_err-kind c).In-ok-q).0
+    ∙ first_later (size_tests file 4 (count_at file)) _ (sized (goal.at.returns-in_err-kind c).In-ok-n).0
     ∙ first_later (check_tests file 9 (count_at file) (places_at file * rows_at file)) _ before.0
     ∙ first_here (rule_tests file (rule_offset file)) _ _ s)
 
-pub returns-in-err-costs : goal.returns-in-err-costs
+pub returns-in_err-costs : goal.returns-in_err-costs
 unfolding tests
-returns-in-err-costs c =
+returns-in_err-costs c =
     let p = err_from_is_err_and c.from-residual-in-err-costs.result c.from-residual-in-err-costs.ensures.1 in
     let file = c.args.file.now in
-    let size = sized (goal.at.returns-in-err-costs c).In-ok-n in
-    let before = ruled (goal.at.returns-in-err-costs c).In-ok-kind in
+    let size = sized (goal.at.returns-in_err-costs c).In-ok-n in
+    let before = ruled (goal.at.returns-in_err-costs c).In-ok-kind in
     let s = tail_moved file _ (cost_offset file) _ (places_at file) _ (kind_of (rule_at file)) _ _ before.3 before.2 size.1 before.1 c.in-err-costs.ensures in
     judged_err (tests file) _ _ _ _ p.1 p.2
-    (first_later (count_tests file 0) _ (counted (goal.at.returns-in-err-costs c).In-ok-q).0
+    (first_later (count_tests file 0) _ (counted (goal.at.returns-in_err-costs c).In-ok-q).0
     ∙ first_later (size_tests file 4 (count_at file)) _ size.0
-    ∙ first_later (check_tests file 9 (count_at file) (places_at file * rows_at file)) _ (checked (goal.at.returns-in-err-costs c).In-ok-checks).0
+    ∙ first_later (check_tests file 9 (count_at file) (places_at file * rows_at file)) _ (checked (goal.at.returns-in_err-costs c).In-ok-checks).0
     ∙ first_later (rule_tests file (rule_offset file)) _ before.0
     ∙ s)
 

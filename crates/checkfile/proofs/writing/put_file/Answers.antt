@@ -4,22 +4,22 @@ use Rattle.checkfile.proofs.Limits.{limits_of, most_places, most_rows}
 use Rattle.checkfile.proofs.Puts.{puts, layout_parts, layout_long}
 use Rattle.checkfile.proofs.writing.put_file.Goals as goal
 
-pub overflow-cast-code : goal.overflow-cast-code
-overflow-cast-code c = let code = c.args.code.now in omega (arith, most_places code.q code.n code.r (limits_of code))
+pub overflow_cast-code : goal.overflow_cast-code
+overflow_cast-code c = let code = c.args.code.now in omega (arith, most_places code.q code.n code.r (limits_of code))
 
-pub overflow-cast-code-2 : goal.overflow-cast-code-2
-overflow-cast-code-2 c = let code = c.args.code.now in omega (arith, most_rows code.q code.n code.r (limits_of code))
+pub overflow_cast-code-2 : goal.overflow_cast-code-2
+overflow_cast-code-2 c = let code = c.args.code.now in omega (arith, most_rows code.q code.n code.r (limits_of code))
 
-pub put-field-at-requires-3 : goal.put-field-at-requires-3
-put-field-at-requires-3 c =
+pub put_field-at-requires-3 : goal.put_field-at-requires-3
+put_field-at-requires-3 c =
     let code = c.args.code.now in
     record {
       room = omega (arith, c.symbols.ensures.len, layout_long code c.args.rule.now);
       short = omega (arith, c.symbols.ensures.len, code.room);
     }
 
-pub put-rule-requires : goal.put-rule-requires
-put-rule-requires c = omega (arith, c.symbols.ensures.len, layout_long c.args.code.now c.args.rule.now)
+pub put_rule-requires : goal.put_rule-requires
+put_rule-requires c = omega (arith, c.symbols.ensures.len, layout_long c.args.code.now c.args.rule.now)
 
 pub returns : goal.returns
 returns c =

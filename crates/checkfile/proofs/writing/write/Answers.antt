@@ -5,8 +5,8 @@ use Rattle.checkfile.proofs.Puts.{layout_long}
 use Rattle.checkfile.proofs.Written.{no_room, written_answer, written_buffer, written_back}
 use Rattle.checkfile.proofs.writing.write.Goals as goal
 
-pub overflow-add-code-2 : goal.overflow-add-code-2
-overflow-add-code-2 c = omega (arith, c.args.code.now.room)
+pub overflow_add-code-2 : goal.overflow_add-code-2
+overflow_add-code-2 c = omega (arith, c.args.code.now.room)
 
 pub returns-then-buffer-code : goal.returns-then-buffer-code
 returns-then-buffer-code c =
@@ -15,8 +15,8 @@ returns-then-buffer-code c =
     let short = no_room code rule c.if-rule-code.false c.args.buffer.now (omega (arith, layout_long code rule)) in
     record { answer = short.0; buffer = short.1; back = tt }
 
-pub put-file-requires : goal.put-file-requires
-put-file-requires c = omega (arith, layout_long c.args.code.now c.args.rule.now)
+pub put_file-requires : goal.put_file-requires
+put_file-requires c = omega (arith, layout_long c.args.code.now c.args.rule.now)
 
 pub returns : goal.returns
 returns c =

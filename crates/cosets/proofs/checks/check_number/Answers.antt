@@ -25,8 +25,8 @@ loop-j-preserved g c =
           ∙ fill_by_more values c.loop-j.sums c.loop-j.j 0 (omega (arith, rows c.args.code.now, c.loop-j.invariant.0)) c.loop-j.invariant.1 k h,
     )
 
-pub slice-bounds-number-of-end : goal.slice-bounds-number-of-end
-slice-bounds-number-of-end g c =
+pub slice_bounds-number_of-end : goal.slice_bounds-number_of-end
+slice_bounds-number_of-end g c =
     let room : c.r.result ≤ length c.loop-j.sums = omega (arith, rows c.args.code.now, c.loop-j.invariant.0) in search rules
 
 -- the sums of r values, as the call is given them
@@ -42,8 +42,8 @@ module _ (S : Symbols) (C : Checks) (y m : ℕ) (sums : List ℕ) (size : m ≡ 
       ap₂ (λ b n. pack b n (λ j. get_or (take (m - 0) sums) j 0)) e long
       ∙ pack_same S.q C.r (λ j. get_or (take (m - 0) sums) j 0) (check_value S C y) item
 
-pub number-of-requires : goal.number-of-requires
-number-of-requires g c =
+pub number_of-requires : goal.number_of-requires
+number_of-requires g c =
     let S = g.A.Alphabet.symbols in
     let lawful = g.met.A.Alphabet.lawful in
     let C = checks_of c.args.code.now in

@@ -30,14 +30,14 @@ bound c =
 pub loop-sum-init : goal.loop-sum-init
 loop-sum-init c = (sym (pack_none c.args.q _), sym (pow-zero c.args.q))
 
-pub overflow-mul-number : goal.overflow-mul-number
-overflow-mul-number c = omega (arith, bound c)
+pub overflow_mul-number : goal.overflow_mul-number
+overflow_mul-number c = omega (arith, bound c)
 
-pub overflow-add-number : goal.overflow-add-number
-overflow-add-number c = omega (arith, bound (goal.at.overflow-add-number c).After-from)
+pub overflow_add-number : goal.overflow_add-number
+overflow_add-number c = omega (arith, bound (goal.at.overflow_add-number c).After-from)
 
-pub overflow-mul-power : goal.overflow-mul-power
-overflow-mul-power c =
+pub overflow_mul-power : goal.overflow_mul-power
+overflow_mul-power c =
     let k = c.loop-sum.sum-index in
     let same : c.loop-sum.power * c.from-power.result ≡ c.loop-sum.power * c.args.q = ap (λ b. c.loop-sum.power * b) c.from-power.ensures in
     omega (arith, power_next c.args.q k c.loop-sum.power c.loop-sum.invariant.1, power_fits c.args.q (k + 1) c.requires.base (omega (arith, c.requires.short)))

@@ -6,8 +6,8 @@ use Rattle.history.specs.declared.entry.Answer.TheVariants.{Found}
 use Rattle.history.proofs.Single.{find_done}
 use Rattle.history.proofs.calls.find.Goals as goal
 
-pub returns-in-err-number : goal.returns-in-err-number
-returns-in-err-number g c =
+pub returns-in_err-number : goal.returns-in_err-number
+returns-in_err-number g c =
     let p = err_from_is_err_and c.from-residual.result c.from-residual.ensures.1 in
     find_done (scheme_of g.A.Alphabet.symbols g.R.Rule.ranks c.args.table.now) c.args.table.now.records.settled c.args.entry.now
     c.as-slice.result.now c.as-mut-slice.result.now c.as-mut-slice-2.result.now c.find.new.correction c.find.new.corrected c.find.result c.from-residual.result

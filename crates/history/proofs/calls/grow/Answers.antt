@@ -7,8 +7,8 @@ use Rattle.history.specs.Histories.{answered}
 use Rattle.history.specs.declared.entry.Answer.TheVariants.{Grown as Grew}
 use Rattle.history.proofs.calls.grow.Goals as goal
 
-pub returns-in-err-grow : goal.returns-in-err-grow
-returns-in-err-grow g c =
+pub returns-in_err-grow : goal.returns-in_err-grow
+returns-in_err-grow g c =
     let S = g.A.Alphabet.symbols in
     let ranks = g.R.Rule.ranks in
     let table = c.args.table.now in

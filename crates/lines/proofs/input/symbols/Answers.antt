@@ -11,5 +11,5 @@ loop-character-preserved c =
 pub returns : goal.returns
 returns c = let all = take_all _ _ c.loop-character-test.false in cc
 
-pub returns-in-err-push : goal.returns-in-err-push
-returns-in-err-push c = search (rules, IfOk-from_err)
+pub returns-in_err-push : goal.returns-in_err-push
+returns-in_err-push c = search (rules, IfOk-from_err)

@@ -5,8 +5,8 @@ use Rattle.marks.proofs.mark.pack.Goals as goal
 pub loop-i-init : goal.loop-i-init
 loop-i-init c = sym (pack_none 4 _)
 
-pub overflow-add-number : goal.overflow-add-number
-overflow-add-number c =
+pub overflow_add-number : goal.overflow_add-number
+overflow_add-number c =
     let i = c.loop-i.i in
     let bytes = c.args.bytes.now in
     omega (arith, pack_more 4 i (λ k. get_or bytes k 0), pack_fits (i + 1) (λ k. get_or bytes k 0) (omega arith) (λ k h. c.requires.digits k (omega arith)))

@@ -3,8 +3,8 @@ use Rattle.queue.proofs.Heaps.{left_child, right_child}
 use Rattle.queue.proofs.sift.first_child.Goals as goal
 use Rattle.queue.proofs.sift.first_child.Goals.{else-right-items-via-then-right-items+else-ranks-before, else-right-items-via-else-right-items}
 
-pub returns-then-ranks-before : goal.returns-then-ranks-before
-returns-then-ranks-before g c = right_child (g.R.Ranking.before _) (g.met.R.Ranking.orders _) _ c.args.at (omega arith) c.if-ranks-before.ensures
+pub returns-then-ranks_before : goal.returns-then-ranks_before
+returns-then-ranks_before g c = right_child (g.R.Ranking.before _) (g.met.R.Ranking.orders _) _ c.args.at (omega arith) c.if-ranks-before.ensures
 
 pub returns-else-right-items : goal.returns-else-right-items
 returns-else-right-items g c =

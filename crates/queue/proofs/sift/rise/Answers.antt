@@ -3,8 +3,8 @@ use Rattle.std.proofs.lemmas.List.Sorted.{IsPermutation-trans}
 use Rattle.queue.proofs.Heaps.{exchanged, rise_step, rise_rest}
 use Rattle.queue.proofs.sift.rise.Goals as goal
 
-pub returns-then-not-ranks-before : goal.returns-then-not-ranks-before
-returns-then-not-ranks-before g c = record {
+pub returns-then-not-ranks_before : goal.returns-then-not-ranks_before
+returns-then-not-ranks_before g c = record {
   items = c.loop-at.invariant.1;
   order = λ h. rise_rest (g.R.Ranking.before _) _ _ c.if-not-ranks-before.ensures (c.loop-at.invariant.2 h);
 }

@@ -2,8 +2,8 @@ use Rattle.std.proofs.lemmas.List.Sorted.{IsPermutation-trans}
 use Rattle.queue.proofs.Heaps.{exchanged, sink_step, sink_rest}
 use Rattle.queue.proofs.sift.sink.Goals as goal
 
-pub returns-then-not-ranks-before : goal.returns-then-not-ranks-before
-returns-then-not-ranks-before g c = record {
+pub returns-then-not-ranks_before : goal.returns-then-not-ranks_before
+returns-then-not-ranks_before g c = record {
   items = c.loop-at.invariant.0;
   order = λ h. sink_rest (g.R.Ranking.before _) (g.met.R.Ranking.orders _) _ _ _
       c.if-not-ranks-before.ensures

@@ -3,8 +3,8 @@ use Rattle.std.proofs.lemmas.List.{ext_get_or, get_or_past, get_or-take, length-
 use Rattle.checkfile.proofs.Limits.{most_checks}
 use Rattle.checkfile.proofs.code.Code.new.Goals as goal
 
-pub invariant-of-result : goal.invariant-of-result
-invariant-of-result c =
+pub invariant_of-result : goal.invariant_of-result
+invariant_of-result c =
     let limits = c.requires.limits in
     let room = most_checks c.args.q c.args.n c.args.r limits in
     let items = c.padded.ensures.whole (omega (arith, room, c.requires.long)) in (

@@ -5,8 +5,8 @@ use Rattle.checkfile.specs.Tests.{field_tests}
 use Rattle.checkfile.proofs.FirstRefusal.{first_here, symbol_fails, symbols_pass}
 use Rattle.checkfile.proofs.fields.Reader.checks.Goals as goal
 
-pub returns-in-err-field : goal.returns-in-err-field
-returns-in-err-field c =
+pub returns-in_err-field : goal.returns-in_err-field
+returns-in_err-field c =
     let p = err_from_is_err_and c.from-residual.result c.from-residual.ensures.1 in
     record {
       file = c.field.ensures.file;

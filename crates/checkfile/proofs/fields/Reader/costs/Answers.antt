@@ -5,16 +5,16 @@ use Rattle.checkfile.specs.Tests.{field_tests}
 use Rattle.checkfile.proofs.FirstRefusal.{first_here, cost_fails, costs_pass}
 use Rattle.checkfile.proofs.fields.Reader.costs.Goals as goal
 
-pub returns-in-err-field : goal.returns-in-err-field
-returns-in-err-field c =
+pub returns-in_err-field : goal.returns-in_err-field
+returns-in_err-field c =
     let p = err_from_is_err_and c.from-residual.result c.from-residual.ensures.1 in
     record {
       file = c.field.ensures.file;
       judged = rw (p.1, p.2) (first_here (field_tests c.args.self.now.file.now c.args.self.now.offset 5 (2 * c.args.n)) _ _ c.in-err-field.ensures.judged);
     }
 
-pub returns-then-pair-at-gt1000 : goal.returns-then-pair-at-gt1000
-returns-then-pair-at-gt1000 c =
+pub returns-then-pair_at-gt1000 : goal.returns-then-pair_at-gt1000
+returns-then-pair_at-gt1000 c =
     let f = c.in-ok-field.ensures.judged in
     record {
       file = c.field.ensures.file;

@@ -64,8 +64,8 @@ returns-then-rest-size c =
           (omega (arith, ltb-false, ap length (take_rest rest 3), length-drop 3 rest));
     }
 
-pub invariant-of-self : goal.invariant-of-self
-invariant-of-self c = (omega (arith, ltb-false, ap length (take_rest c.rest.result.now 3), length-drop 3 c.rest.result.now), tt)
+pub invariant_of-self : goal.invariant_of-self
+invariant_of-self c = (omega (arith, ltb-false, ap length (take_rest c.rest.result.now 3), length-drop 3 c.rest.result.now), tt)
 
 pub returns : goal.returns
 returns c =

@@ -6,8 +6,8 @@ use Rattle.checkfile.specs.Tests.{byte, field_tests}
 use Rattle.checkfile.proofs.FirstRefusal.{first_here, value_fails, value_passes, first_byte}
 use Rattle.checkfile.proofs.fields.Reader.kind.Goals as goal
 
-pub returns-in-err-field : goal.returns-in-err-field
-returns-in-err-field c =
+pub returns-in_err-field : goal.returns-in_err-field
+returns-in_err-field c =
     let p = err_from_is_err_and c.from-residual.result c.from-residual.ensures.1 in
     record {
       file = c.field.ensures.file;

@@ -5,16 +5,16 @@ use Rattle.checkfile.specs.Tests.{byte, field_tests, sizes_fit}
 use Rattle.checkfile.proofs.FirstRefusal.{first_here, value_fails, value_passes, first_byte, second_byte, sizes_within}
 use Rattle.checkfile.proofs.fields.Reader.sizes.Goals as goal
 
-pub returns-in-err-field : goal.returns-in-err-field
-returns-in-err-field c =
+pub returns-in_err-field : goal.returns-in_err-field
+returns-in_err-field c =
     let p = err_from_is_err_and c.from-residual.result c.from-residual.ensures.1 in
     record {
       file = c.field.ensures.file;
       judged = rw (p.1, p.2) (first_here (field_tests c.args.self.now.file.now c.args.self.now.offset 2 2) _ _ c.in-err-field.ensures.judged);
     }
 
-pub returns-then-not-sizes-fit : goal.returns-then-not-sizes-fit
-returns-then-not-sizes-fit c =
+pub returns-then-not-sizes_fit : goal.returns-then-not-sizes_fit
+returns-then-not-sizes_fit c =
     let file = c.args.self.now.file.now in
     let at = c.args.self.now.offset in
     let f = c.in-ok-field.ensures.judged in

@@ -9,8 +9,8 @@ use Rattle.checkfile.proofs.fields.Reader.tail.Goals as goal
 moved : (file file' : List ℕ) (at at' : ℕ) (e : Option Refusal) → file' ≡ file → at' ≡ at → first_refusal (end_tests file' at') ≡ e → first_refusal (end_tests file at) ≡ e
 moved file file' at at' e p q h = ap₂ (λ f o. first_refusal (end_tests f o)) (sym p) (sym q) ∙ h
 
-pub returns-in-err-costs : goal.returns-in-err-costs
-returns-in-err-costs c =
+pub returns-in_err-costs : goal.returns-in_err-costs
+returns-in_err-costs c =
     let p = err_from_is_err_and c.from-residual-in-err-costs.result c.from-residual-in-err-costs.ensures.1 in
     let file = c.args.self.now.file.now in
     let at = c.args.self.now.offset in
@@ -18,8 +18,8 @@ returns-in-err-costs c =
     (ap (λ k. first_refusal (tail_tests file at c.args.n k)) c.in-Cost.is
     ∙ first_here (cost_tests file at c.args.n) _ _ c.in-err-costs.ensures.judged)
 
-pub returns-in-err-end-2 : goal.returns-in-err-end-2
-returns-in-err-end-2 c =
+pub returns-in_err-end-2 : goal.returns-in_err-end-2
+returns-in_err-end-2 c =
     let p = err_from_is_err_and c.from-residual-in-err-end-2.result c.from-residual-in-err-end-2.ensures.1 in
     let file = c.args.self.now.file.now in
     let at = c.args.self.now.offset in
@@ -29,8 +29,8 @@ returns-in-err-end-2 c =
     ∙ first_later (cost_tests file at c.args.n) _ f.judged.0
     ∙ moved file _ (at + 3 + 2 * c.args.n) _ _ f.file f.judged.1.2 c.in-err-end-2.ensures)
 
-pub returns-in-ok-end-2 : goal.returns-in-ok-end-2
-returns-in-ok-end-2 c =
+pub returns-in_ok-end-2 : goal.returns-in_ok-end-2
+returns-in_ok-end-2 c =
     let file = c.args.self.now.file.now in
     let at = c.args.self.now.offset in
     let f = c.in-ok-costs.ensures in

@@ -4,8 +4,8 @@ use Rattle.lines.proofs.Lines.{left_shorter, takes_none, takes_line}
 use Rattle.lines.proofs.input.LinesIterator.next.Goals as goal
 use Rattle.std.proofs.iter.Next.{firm}
 
-pub returns-then-is-empty : goal.returns-then-is-empty
-returns-then-is-empty c = record { steps = takes_none _ (eqb-true _ 0 (sym c.if-is-empty.ensures)); goes = firm (tt) (λ h. search rules) }
+pub returns-then-is_empty : goal.returns-then-is_empty
+returns-then-is_empty c = record { steps = takes_none _ (eqb-true _ 0 (sym c.if-is-empty.ensures)); goes = firm (tt) (λ h. search rules) }
 
 pub returns : goal.returns
 returns c =

@@ -12,7 +12,7 @@ small : (g : given.Over) (c : Else-place-n g) (i : ℕ) → i < length c.args.by
 small g c i h =
     let q = g.A.Alphabet.symbols.q in
     let bytes = c.args.bytes.now in
-    let place : c.first-outside-place.result ≡ first_outside q bytes = c.first-outside-place.ensures ∙ ap (λ k. first_outside k bytes) c.count.ensures in
+    let place : c.first_outside-place.result ≡ first_outside q bytes = c.first_outside-place.ensures ∙ ap (λ k. first_outside k bytes) c.count.ensures in
     omega (arith, g.met.A.Alphabet.lawful.most, inside_before q bytes i (omega arith))
 
 pub pack-requires : goal.pack-requires

@@ -12,14 +12,14 @@ use Rattle.table.proofs.table.Table.grow.Goals.{After-scratch-size}
 size : (g : given.Over) (c : After-scratch-size g) → c.scratch-size.result ≡ scratch_size (scheme_of g.A.Alphabet.symbols g.R.Rule.ranks c.args.self.now)
 size g c = let code = c.args.self.now.code in c.scratch-size.ensures ∙ ap (λ q. scratch_for q code.n code.r) (sym c.requires.count)
 
-pub returns-then-scratch-scratch-size : goal.returns-then-scratch-scratch-size
-returns-then-scratch-scratch-size g c = let e = size g (goal.at.returns-then-scratch-scratch-size g c).After-scratch-size in search rules
+pub returns-then-scratch-scratch_size : goal.returns-then-scratch-scratch_size
+returns-then-scratch-scratch_size g c = let e = size g (goal.at.returns-then-scratch-scratch_size g c).After-scratch-size in search rules
 
-pub queue-pending-requires : goal.queue-pending-requires
-queue-pending-requires g c = record {
+pub queue_pending-requires : goal.queue_pending-requires
+queue_pending-requires g c = record {
   settled = c.requires.settled;
   empty = c.new-queue.ensures.fresh.held;
-  room = omega (arith, size g (goal.at.queue-pending-requires g c).After-scratch-size, c.if-scratch-scratch-size.false, ap length c.new-queue.ensures.fresh.places);
+  room = omega (arith, size g (goal.at.queue_pending-requires g c).After-scratch-size, c.if-scratch-scratch-size.false, ap length c.new-queue.ensures.fresh.places);
 }
 
 pub returns : goal.returns

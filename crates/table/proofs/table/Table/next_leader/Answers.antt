@@ -28,8 +28,8 @@ loop-number-preserved g c =
 pub loop-number-smaller : goal.loop-number-smaller
 loop-number-smaller g c = omega (arith, c.in-Some.ensures.answer.held)
 
-pub offset-bounds-self-check : goal.offset-bounds-self-check
-offset-bounds-self-check g c = omega (arith, check_inside _ _ c.requires.settled c.in-Some.number, c.check-number-check.ensures)
+pub offset_bounds-self-check : goal.offset_bounds-self-check
+offset_bounds-self-check g c = omega (arith, check_inside _ _ c.requires.settled c.in-Some.number, c.check-number-check.ensures)
 
 pub bounds-self-check : goal.bounds-self-check
 bounds-self-check g c = omega (arith, check_inside _ _ c.requires.settled c.in-Some.number, c.check-number-check.ensures)

@@ -30,8 +30,8 @@ loop-j-init g c =
           subst (Pending T table.records.settled 0) (sym w.queue-is) (pending_later T proper table.records.settled old (omega (arith, w.if-self-eq0.false)) c.requires.empty c.requires.room)
     ]
 
-pub queue-sprouts-requires : goal.queue-sprouts-requires
-queue-sprouts-requires g c =
+pub queue_sprouts-requires : goal.queue_sprouts-requires
+queue_sprouts-requires g c =
     let table = c.args.self.now in
     let T = scheme_of g.A.Alphabet.symbols g.R.Rule.ranks table in
     let settled = c.requires.settled in
@@ -53,8 +53,8 @@ loop-j-preserved g c =
     pending_sprouts T settled.proper table.records.settled j c.loop-j.queue c.queue-sprouts.new.queue c.loop-j.invariant
     (subst (λ u. Joined T (Sprout T u) (sprout_count T) c.loop-j.queue c.queue-sprouts.new.queue) (settled.leader j c.loop-j-test.true) c.queue-sprouts.ensures)
 
-pub offset-bounds-self-j : goal.offset-bounds-self-j
-offset-bounds-self-j g c = omega (arith, settled_most _ _ c.requires.settled, c.loop-j-test.true)
+pub offset_bounds-self-j : goal.offset_bounds-self-j
+offset_bounds-self-j g c = omega (arith, settled_most _ _ c.requires.settled, c.loop-j-test.true)
 
 pub bounds-self-j : goal.bounds-self-j
 bounds-self-j g c = omega (arith, settled_most _ _ c.requires.settled, c.loop-j-test.true)

@@ -10,8 +10,8 @@ pub height-place-requires : goal.height-place-requires
 height-place-requires g c κs j h = digit_past c.args.self.now.code.n c.args.mark.number j c.requires.mark.short (omega (arith, c.n.ensures))
 
 -- a place more takes at most its nonzero symbols more
-pub queue-symbols-requires : goal.queue-symbols-requires
-queue-symbols-requires g c =
+pub queue_symbols-requires : goal.queue_symbols-requires
+queue_symbols-requires g c =
     let T = scheme_of g.A.Alphabet.symbols g.R.Rule.ranks c.args.self.now in
     let more = T.symbols.q - 1 in
     let place = c.loop-place.place in

@@ -28,12 +28,12 @@ after g c =
     let is : c.write.new.self ≡ recorded records c.args.number (check_of T c.args.number) = c.write.ensures ∙ ap (recorded records c.args.number) c.check-number-check.ensures in
     subst (Settled T) (sym is) (settled_more T records c.requires.settled c.args.number c.requires.next.within c.requires.next.is)
 
-pub queue-sprouts-requires : goal.queue-sprouts-requires
-queue-sprouts-requires g c =
+pub queue_sprouts-requires : goal.queue_sprouts-requires
+queue_sprouts-requires g c =
     let T = scheme_of g.A.Alphabet.symbols g.R.Rule.ranks c.args.self.now in
     let records = c.args.self.now.records in
     record {
-      settled = after g (goal.at.queue-sprouts-requires g c).After-write;
+      settled = after g (goal.at.queue_sprouts-requires g c).After-write;
       mark = next_mark T records c.requires.settled c.args.number c.requires.next.within c.requires.next.is;
       within = c.requires.next.pending.within;
       room = room_for_sprouts T c.requires.settled.proper (records.settled + 1) records.settled c.args.queue.now c.requires.next.pending c.requires.next.within;

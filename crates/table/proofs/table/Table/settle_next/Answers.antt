@@ -10,8 +10,8 @@ pub loop-init : goal.loop-init
 loop-init g c = (record { alphabet = refl; rule = refl; code = refl }, omega arith, c.requires.settled, c.requires.pending)
 
 -- the facts of a turn, at the scheme of the table as it is then
-pub next-leader-requires : goal.next-leader-requires
-next-leader-requires g c =
+pub next_leader-requires : goal.next_leader-requires
+next_leader-requires g c =
     let same = sym (same_scheme g.A.Alphabet.symbols g.R.Rule.ranks c.args.self.now c.loop.self c.loop.invariant.0) in
     let k = c.loop.self.records.settled in
     record {

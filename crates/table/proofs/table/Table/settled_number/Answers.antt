@@ -6,11 +6,11 @@ use Rattle.table.specs.Tables.{scheme_of}
 use Rattle.table.proofs.Settling.{check_inside, not_settled, is_settled}
 use Rattle.table.proofs.table.Table.settled_number.Goals as goal
 
-pub offset-bounds-self-check-number : goal.offset-bounds-self-check-number
-offset-bounds-self-check-number g c = omega (arith, check_inside _ _ c.requires.kept.settled c.args.mark.number, c.check-number.ensures)
+pub offset_bounds-self-check_number : goal.offset_bounds-self-check_number
+offset_bounds-self-check_number g c = omega (arith, check_inside _ _ c.requires.kept.settled c.args.mark.number, c.check-number.ensures)
 
-pub bounds-self-check-number : goal.bounds-self-check-number
-bounds-self-check-number g c = omega (arith, check_inside _ _ c.requires.kept.settled c.args.mark.number, c.check-number.ensures)
+pub bounds-self-check_number : goal.bounds-self-check_number
+bounds-self-check_number g c = omega (arith, check_inside _ _ c.requires.kept.settled c.args.mark.number, c.check-number.ensures)
 
 pub returns-then-number-eq0 : goal.returns-then-number-eq0
 returns-then-number-eq0 g c =

@@ -8,11 +8,11 @@ use Rattle.table.proofs.Finding.{leader_recorded}
 use Rattle.table.proofs.Settling.{settled_most}
 use Rattle.table.proofs.table.Table.write_correction.Goals as goal
 
-pub overflow-sub-leader : goal.overflow-sub-leader
-overflow-sub-leader g c = omega (arith, number_least _ c.requires.kept.settled.proper c.args.mark.number c.requires.mark, c.requires.number.0)
+pub overflow_sub-leader : goal.overflow_sub-leader
+overflow_sub-leader g c = omega (arith, number_least _ c.requires.kept.settled.proper c.args.mark.number c.requires.mark, c.requires.number.0)
 
-pub offset-bounds-self-number : goal.offset-bounds-self-number
-offset-bounds-self-number g c = omega (arith, settled_most _ _ c.requires.kept.settled, c.requires.number.1)
+pub offset_bounds-self-number : goal.offset_bounds-self-number
+offset_bounds-self-number g c = omega (arith, settled_most _ _ c.requires.kept.settled, c.requires.number.1)
 
 pub bounds-self-number : goal.bounds-self-number
 bounds-self-number g c = omega (arith, number_least _ c.requires.kept.settled.proper c.args.mark.number c.requires.mark, c.requires.number.0, settled_most _ _ c.requires.kept.settled, c.requires.number.1)
