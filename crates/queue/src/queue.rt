@@ -30,7 +30,7 @@ impl<'a, T: Copy> Queue<'a, T> {
 
     pub fn put<R: Ranking<T>>(&mut self, ranking: &R, item: T) -> Result<(), Refusal>
         requires { Within self.old }
-        ensures answer { MatchResult result (λ _. Accepted (before ranking.now) item self.old self.new) (λ refusal. Refused refusal self.old self.new) }
+        ensures answer { MatchResult result (λ _. Accepted (R.before ranking.now) item self.old self.new) (λ refusal. Refused refusal self.old self.new) }
         ensures within { Within self.new }
         ensures long { length (places_of self.new) ≡ length (places_of self.old) }
         ensures lender { self.new.places.ghost_name ≡ self.old.places.ghost_name }
@@ -47,7 +47,7 @@ impl<'a, T: Copy> Queue<'a, T> {
 
     pub fn take<R: Ranking<T>>(&mut self, ranking: &R) -> Option<T>
         requires { Within self.old }
-        ensures answer { MatchOption result (Empty self.old self.new) (λ item. Taken (before ranking.now) item self.old self.new) }
+        ensures answer { MatchOption result (Empty self.old self.new) (λ item. Taken (R.before ranking.now) item self.old self.new) }
         ensures within { Within self.new }
         ensures long { length (places_of self.new) ≡ length (places_of self.old) }
         ensures lender { self.new.places.ghost_name ≡ self.old.places.ghost_name }

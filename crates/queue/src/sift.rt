@@ -10,7 +10,7 @@ use crate::ranking::Ranking;
 pub(crate) fn rise<T: Copy, R: Ranking<T>>(items: &mut [T], ranking: &R)
     requires { 0 < length items.old }
     ensures items { IsPermutation items.old items.new }
-    ensures order { Rising (before ranking.now) items.old (length items.old - 1) → Heaped (before ranking.now) items.new }
+    ensures order { Rising (R.before ranking.now) items.old (length items.old - 1) → Heaped (R.before ranking.now) items.new }
 {
     let mut at = items.len() - 1;
     while at > 0 {
@@ -26,7 +26,7 @@ pub(crate) fn rise<T: Copy, R: Ranking<T>>(items: &mut [T], ranking: &R)
 // Takes the first item out. The last one takes its place and sinks there.
 pub(crate) fn take_first<T: Copy, R: Ranking<T>>(items: &mut [T], ranking: &R) -> T
     requires { 0 < length items.old }
-    ensures { Parted (before ranking.now) items.old result (take (length items.old - 1) items.new) }
+    ensures { Parted (R.before ranking.now) items.old result (take (length items.old - 1) items.new) }
 {
     let first = items[0];
     let last = items.len() - 1;
@@ -38,7 +38,7 @@ pub(crate) fn take_first<T: Copy, R: Ranking<T>>(items: &mut [T], ranking: &R) -
 // Lets the first item sink to where no child ranks before it.
 fn sink<T: Copy, R: Ranking<T>>(items: &mut [T], ranking: &R)
     ensures items { IsPermutation items.old items.new }
-    ensures order { Sinking (before ranking.now) items.old 0 → Heaped (before ranking.now) items.new }
+    ensures order { Sinking (R.before ranking.now) items.old 0 → Heaped (R.before ranking.now) items.new }
 {
     let mut at = 0;
     while at < items.len() / 2 {
@@ -54,7 +54,7 @@ fn sink<T: Copy, R: Ranking<T>>(items: &mut [T], ranking: &R)
 // The child of a place that the other one does not rank before.
 fn first_child<T: Copy, R: Ranking<T>>(items: &[T], ranking: &R, at: usize) -> usize
     requires { at < length items.now / 2 }
-    ensures { FirstChild (before ranking.now) items.now at result }
+    ensures { FirstChild (R.before ranking.now) items.now at result }
 {
     let left = 2 * at + 1;
     let right = left + 1;
@@ -67,7 +67,7 @@ fn first_child<T: Copy, R: Ranking<T>>(items: &[T], ranking: &R, at: usize) -> u
 
 fn ranks_before<T: Copy, R: Ranking<T>>(items: &[T], ranking: &R, a: usize, b: usize) -> bool
     requires { (a < length items.now) × (b < length items.now) }
-    ensures { (d : T) → before ranking.now (slice_index_or items.now a d) (slice_index_or items.now b d) ≡ result }
+    ensures { (d : T) → R.before ranking.now (slice_index_or items.now a d) (slice_index_or items.now b d) ≡ result }
 {
     ranking.before(items[a], items[b])
 }
