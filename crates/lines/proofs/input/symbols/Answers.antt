@@ -6,7 +6,7 @@ use Rattle.lines.proofs.input.symbols.Goals as goal
 
 pub loop-character-preserved : goal.loop-character-preserved
 loop-character-preserved c =
-    mapped_more _ _ _ _ _ _ c.loop-character-test.true c.loop-character.invariant c.in-ok-push.ensures.items (cc)
+    mapped_more _ _ _ _ _ _ c.loop-character-test.true c.loop-character.invariant c.in_ok-push.ensures.items (cc)
 
 pub returns : goal.returns
 returns c = let all = take_all _ _ c.loop-character-test.false in cc

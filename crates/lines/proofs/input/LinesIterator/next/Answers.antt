@@ -5,11 +5,11 @@ use Rattle.lines.proofs.input.LinesIterator.next.Goals as goal
 use Rattle.std.proofs.iter.Next.{firm}
 
 pub returns-then-is_empty : goal.returns-then-is_empty
-returns-then-is_empty c = record { steps = takes_none _ (eqb-true _ 0 (sym c.if-is-empty.ensures)); goes = firm (tt) (λ h. search rules) }
+returns-then-is_empty c = record { steps = takes_none _ (eqb-true _ 0 (sym c.if-is_empty.ensures)); goes = firm (tt) (λ h. search rules) }
 
 pub returns : goal.returns
 returns c =
-    let some : 0 < length c.args.self.now.rest.now = omega (arith, eqb-false _ 0 (sym c.if-is-empty.ensures)) in
+    let some : 0 < length c.args.self.now.rest.now = omega (arith, eqb-false _ 0 (sym c.if-is_empty.ensures)) in
     record {
       steps = takes_line _ _ _ some (cc) (cc);
       goes = firm ((tt, tt, omega (arith, left_shorter c.args.self.now.rest.now, ap length c.cut.ensures.left))) (λ h. search rules);
