@@ -9,9 +9,9 @@ pub loop-j-preserved : goal.loop-j-preserved
 loop-j-preserved g c =
     let values = check_value g.A.Alphabet.symbols (checks_of c.args.code.now) c.args.mark.number in
     let more = map-range_with_len_more values 0 c.loop-j.j c.loop-j.j (omega arith) in
-    let pushed = c.in-ok-push.ensures.items in
+    let pushed = c.in_ok-push.ensures.items in
     let before = c.loop-j.invariant in
-    let here = c.check-value.ensures in
+    let here = c.check_value.ensures in
     cc
 
 pub returns : goal.returns

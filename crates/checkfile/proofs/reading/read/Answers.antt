@@ -20,7 +20,7 @@ pub returns-in-Ok : goal.returns-in-Ok
 returns-in-Ok c =
     let parts = c.in-Ok.parts in
     read_accepted c.args.file.now parts.q parts.n parts.r parts.checks.now parts.kind parts.costs.now c.in-Ok.ensures.1 _ _
-    c.new.ensures c.new-in-Ok.ensures (λ k. omega (arith, c.type-inv.file k)) c.in-Ok.ensures.0
+    c.new.ensures c.new-in-Ok.ensures (λ k. omega (arith, c.type_inv.file k)) c.in-Ok.ensures.0
 
 pub returns-in-Err : goal.returns-in-Err
 returns-in-Err c =

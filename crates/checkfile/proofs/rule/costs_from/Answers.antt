@@ -10,7 +10,7 @@ loop-k-init c = (refl, padded_none 0 (λ j. pair c.args.bytes.now (2 * j)) 24)
 pub loop-k-preserved : goal.loop-k-preserved
 loop-k-preserved c =
     let inv = c.loop-k.invariant in
-    (length-set c.loop-k.costs c.loop-k.k _ ∙ inv.0, padded_more 0 (λ j. pair c.args.bytes.now (2 * j)) c.loop-k.k _ c.loop-k.costs (omega arith) c.pair-at.ensures inv.1)
+    (length-set c.loop-k.costs c.loop-k.k _ ∙ inv.0, padded_more 0 (λ j. pair c.args.bytes.now (2 * j)) c.loop-k.k _ c.loop-k.costs (omega arith) c.pair_at.ensures inv.1)
 
 pub returns : goal.returns
 returns c = record {

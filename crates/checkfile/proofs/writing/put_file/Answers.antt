@@ -25,7 +25,7 @@ pub returns : goal.returns
 returns c =
     let code = c.args.code.now in
     let rule = c.args.rule.now in
-    let table = subst (λ (zs : List ℕ). Put (field 3 zs) c.put-field-at-2.result c.put-field-at-2.new.buffer c.put-field-at-3.new.buffer c.put-field-at-3.result) c.symbols.ensures.value c.put-field-at-3.ensures in
-    let sizes = puts (field 1 (code.q ∷ [])) (field 2 (code.n ∷ (code.r ∷ []))) _ _ _ _ _ _ c.put-field-at.ensures c.put-field-at-2.ensures in
-    subst (λ (zs : List ℕ). Put zs 0 c.args.buffer.now c.put-rule.new.buffer c.put-rule.result) (layout_parts code rule)
-    (puts _ _ _ _ _ _ _ _ (puts _ _ _ _ _ _ _ _ sizes table) c.put-rule.ensures)
+    let table = subst (λ (zs : List ℕ). Put (field 3 zs) c.put_field-at-2.result c.put_field-at-2.new.buffer c.put_field-at-3.new.buffer c.put_field-at-3.result) c.symbols.ensures.value c.put_field-at-3.ensures in
+    let sizes = puts (field 1 (code.q ∷ [])) (field 2 (code.n ∷ (code.r ∷ []))) _ _ _ _ _ _ c.put_field-at.ensures c.put_field-at-2.ensures in
+    subst (λ (zs : List ℕ). Put zs 0 c.args.buffer.now c.put_rule.new.buffer c.put_rule.result) (layout_parts code rule)
+    (puts _ _ _ _ _ _ _ _ (puts _ _ _ _ _ _ _ _ sizes table) c.put_rule.ensures)

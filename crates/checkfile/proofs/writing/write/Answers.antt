@@ -24,7 +24,7 @@ returns c =
     let rule = c.args.rule.now in
     let room : length (layout (content_of code rule)) ≤ length c.args.buffer.now = omega (arith, layout_long code rule) in
     record {
-      answer = written_answer code rule c.if-rule-code.false c.args.buffer.now c.put-file.new.buffer c.put-file.result room c.put-file.ensures;
-      buffer = written_buffer code rule c.if-rule-code.false c.args.buffer.now c.put-file.new.buffer c.put-file.result room c.put-file.ensures;
-      back = written_back code rule c.if-rule-code.false c.args.buffer.now c.put-file.new.buffer c.put-file.result room c.put-file.ensures;
+      answer = written_answer code rule c.if-rule-code.false c.args.buffer.now c.put_file.new.buffer c.put_file.result room c.put_file.ensures;
+      buffer = written_buffer code rule c.if-rule-code.false c.args.buffer.now c.put_file.new.buffer c.put_file.result room c.put_file.ensures;
+      back = written_back code rule c.if-rule-code.false c.args.buffer.now c.put_file.new.buffer c.put_file.result room c.put_file.ensures;
     }

@@ -20,8 +20,8 @@ bounds-sums-j g c = omega (arith, rows c.args.code.now)
 pub loop-j-preserved : goal.loop-j-preserved
 loop-j-preserved g c =
     let values = check_value g.A.Alphabet.symbols (checks_of c.args.code.now) c.args.mark.number in (
-      length-set c.loop-j.sums c.loop-j.j c.check-value.result ∙ c.loop-j.invariant.0,
-      λ k h. ap (λ v. get_or (set c.loop-j.sums c.loop-j.j v) k 0) c.check-value.ensures
+      length-set c.loop-j.sums c.loop-j.j c.check_value.result ∙ c.loop-j.invariant.0,
+      λ k h. ap (λ v. get_or (set c.loop-j.sums c.loop-j.j v) k 0) c.check_value.ensures
           ∙ fill_by_more values c.loop-j.sums c.loop-j.j 0 (omega (arith, rows c.args.code.now, c.loop-j.invariant.0)) c.loop-j.invariant.1 k h,
     )
 
@@ -64,4 +64,4 @@ returns g c =
     let y = c.args.mark.number in
     let each : (k : ℕ) → k < C.r → get_or c.loop-j.sums k 0 ≡ check_value S C y k = λ k h. c.loop-j.invariant.1 k (omega arith) in
     let room : c.r.result ≤ length c.loop-j.sums = omega (arith, rows c.args.code.now, c.loop-j.invariant.0) in
-    c.number-of.ensures ∙ packed S C y c.r.result c.loop-j.sums c.r.ensures room each c.count.result c.count.ensures
+    c.number_of.ensures ∙ packed S C y c.r.result c.loop-j.sums c.r.ensures room each c.count.result c.count.ensures

@@ -10,9 +10,9 @@ returns g c =
     let lawful = g.met.A.Alphabet.lawful in
     let C = checks_of c.args.code.now in
     let y = c.args.mark.number in
-    let number = c.check-number.ensures in
+    let number = c.check_number.ensures in
     record {
       number = ap (λ k. eqb k 0) number;
-      lawful = λ h. values_of_word S lawful C y (sym number ∙ eqb-true c.check-number.result 0 h);
-      only = λ h. eq-eqb c.check-number.result 0 (number ∙ word_of_values S lawful C y h);
+      lawful = λ h. values_of_word S lawful C y (sym number ∙ eqb-true c.check_number.result 0 h);
+      only = λ h. eq-eqb c.check_number.result 0 (number ∙ word_of_values S lawful C y h);
     }

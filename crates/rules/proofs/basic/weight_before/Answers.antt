@@ -5,7 +5,7 @@ use Rattle.rules.proofs.basic.weight_before.Goals as goal
 
 pub returns : goal.returns
 returns c =
-    c.is-first.ensures
+    c.is_first.ensures
     ∙ same_first _ _ _ _ _ _ _ _
     (c.weight.ensures ∙ ap (weight 32) c.low.ensures ∙ weight_cost_fitting c.args.n c.args.u (omega arith))
     (c.weight-2.ensures ∙ ap (weight 32) c.low-2.ensures ∙ weight_cost_fitting c.args.n c.args.v (omega arith))

@@ -17,7 +17,7 @@ loop-i-preserved c =
     elim c.if-symbol-ne0.branch [
       | then-symbol-ne0 t ↦
           let some = cost_more c.loop-i.i (λ k. get_or c.args.costs.now k 0) c.args.mark.number (omega (arith, t.if-symbol-ne0.true)) in
-          (omega (arith, some, t.sum-is, t.from-sum.ensures, c.loop-i.invariant.0), omega (arith, t.sum-is, t.from-sum.ensures, c.type-inv.costs c.loop-i.i, c.loop-i.invariant.1))
+          (omega (arith, some, t.sum-is, t.from-sum.ensures, c.loop-i.invariant.0), omega (arith, t.sum-is, t.from-sum.ensures, c.type_inv.costs c.loop-i.i, c.loop-i.invariant.1))
       | else-symbol-ne0 t ↦
           let none = cost_same c.loop-i.i (λ k. get_or c.args.costs.now k 0) c.args.mark.number (omega (arith, t.if-symbol-ne0.false)) in
           (omega (arith, none, t.sum-is, c.loop-i.invariant.0), omega (arith, t.sum-is, c.loop-i.invariant.1))

@@ -8,17 +8,17 @@ use Rattle.checkfile.proofs.fields.Reader.kind.Goals as goal
 
 pub returns-in_err-field : goal.returns-in_err-field
 returns-in_err-field c =
-    let p = err_from_is_err_and c.from-residual.result c.from-residual.ensures.1 in
+    let p = err_from_is_err_and c.from_residual.result c.from_residual.ensures.1 in
     record {
       file = c.field.ensures.file;
-      judged = rw (p.1, p.2) (first_here (field_tests c.args.self.now.file.now c.args.self.now.offset 4 1) _ _ c.in-err-field.ensures.judged);
+      judged = rw (p.1, p.2) (first_here (field_tests c.args.self.now.file.now c.args.self.now.offset 4 1) _ _ c.in_err-field.ensures.judged);
     }
 
 pub returns-in-default : goal.returns-in-default
 returns-in-default c =
     let file = c.args.self.now.file.now in
     let at = c.args.self.now.offset in
-    let f = c.in-ok-field.ensures.judged in
+    let f = c.in_ok-field.ensures.judged in
     let b = first_byte file _ at 1 f.1.1 (omega arith) in
     record {
       file = c.field.ensures.file;
@@ -29,7 +29,7 @@ pub returns : goal.returns
 returns c =
     let file = c.args.self.now.file.now in
     let at = c.args.self.now.offset in
-    let f = c.in-ok-field.ensures.judged in
+    let f = c.in_ok-field.ensures.judged in
     let b = first_byte file _ at 1 f.1.1 (omega arith) in
     let k = c.in-Some.ensures in
     record {

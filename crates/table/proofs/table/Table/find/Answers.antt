@@ -14,11 +14,11 @@ returns g c =
     let k = table.records.settled in
     let first = length c.args.correction.now in
     let second = length c.args.corrected.now in
-    let seen = c.in-ok-seen.ensures in
+    let seen = c.in_ok-seen.ensures in
     record {
       answer =
-          found_with_buffers T k c.in-ok-seen.seen first second _ (c.if-correction-n.false ∙ c.n.ensures) (c.if-corrected-n.false ∙ c.n-else-correction-n.ensures) c.in-ok-number.ensures.value
+          found_with_buffers T k c.in_ok-seen.seen first second _ (c.if-correction-n.false ∙ c.n.ensures) (c.if-corrected-n.false ∙ c.n-else-correction-n.ensures) c.in_ok-number.ensures.value
           ∙ ap (λ r. found_of T k r first second) seen.value;
-      correction = c.write-correction.ensures.correction ∙ ap (λ u. bytes_of n (leader_of T u)) seen.sound.0;
-      corrected = c.write-correction.ensures.corrected ∙ ap (λ u. bytes_of n (minus g.A.Alphabet.symbols n u (leader_of T u))) seen.sound.0;
+      correction = c.write_correction.ensures.correction ∙ ap (λ u. bytes_of n (leader_of T u)) seen.sound.0;
+      corrected = c.write_correction.ensures.corrected ∙ ap (λ u. bytes_of n (minus g.A.Alphabet.symbols n u (leader_of T u))) seen.sound.0;
     }

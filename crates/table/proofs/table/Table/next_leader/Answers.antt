@@ -21,18 +21,18 @@ loop-number-preserved g c =
     let new = c.take.new.self in
     let said = c.in-Some.ensures in
     let mark = taken_mark T proper before agree table.records.settled old new u c.loop-number.invariant said.answer said.long said.within in
-    let here : get_or table.records.numbers c.check-number-check.result 0 ≡ get_or table.records.numbers (check_of T u) 0 = ap (λ i. get_or table.records.numbers i 0) c.check-number-check.ensures in
+    let here : get_or table.records.numbers c.check_number-check.result 0 ≡ get_or table.records.numbers (check_of T u) 0 = ap (λ i. get_or table.records.numbers i 0) c.check_number-check.ensures in
     taken_settled T proper before agree table.records.settled old new u c.loop-number.invariant said.answer said.long said.within
-    (is_settled T table.records c.requires.settled u (get_or table.records.numbers c.check-number-check.result 0) mark here (omega (arith, c.if-self-check-eq0.false))).0
+    (is_settled T table.records c.requires.settled u (get_or table.records.numbers c.check_number-check.result 0) mark here (omega (arith, c.if-self-check-eq0.false))).0
 
 pub loop-number-smaller : goal.loop-number-smaller
 loop-number-smaller g c = omega (arith, c.in-Some.ensures.answer.held)
 
 pub offset_bounds-self-check : goal.offset_bounds-self-check
-offset_bounds-self-check g c = omega (arith, check_inside _ _ c.requires.settled c.in-Some.number, c.check-number-check.ensures)
+offset_bounds-self-check g c = omega (arith, check_inside _ _ c.requires.settled c.in-Some.number, c.check_number-check.ensures)
 
 pub bounds-self-check : goal.bounds-self-check
-bounds-self-check g c = omega (arith, check_inside _ _ c.requires.settled c.in-Some.number, c.check-number-check.ensures)
+bounds-self-check g c = omega (arith, check_inside _ _ c.requires.settled c.in-Some.number, c.check_number-check.ensures)
 
 pub returns-then-self-check-eq0 : goal.returns-then-self-check-eq0
 returns-then-self-check-eq0 g c =
@@ -46,7 +46,7 @@ returns-then-self-check-eq0 g c =
     let new = c.take.new.self in
     let said = c.in-Some.ensures in
     let mark = taken_mark T proper before agree table.records.settled old new u c.loop-number.invariant said.answer said.long said.within in
-    let none : get_or table.records.numbers (check_of T u) 0 ≡ 0 = ap (λ i. get_or table.records.numbers i 0) (sym c.check-number-check.ensures) ∙ c.if-self-check-eq0.true in
+    let none : get_or table.records.numbers (check_of T u) 0 ≡ 0 = ap (λ i. get_or table.records.numbers i 0) (sym c.check_number-check.ensures) ∙ c.if-self-check-eq0.true in
     taken_next T proper before agree table.records.settled old new u c.loop-number.invariant said.answer said.long said.within (not_settled T table.records c.requires.settled u mark none)
 
 pub returns : goal.returns

@@ -50,8 +50,8 @@ loop-j-preserved g c =
     let T = scheme_of g.A.Alphabet.symbols g.R.Rule.ranks table in
     let settled = c.requires.settled in
     let j = c.loop-j.j in
-    pending_sprouts T settled.proper table.records.settled j c.loop-j.queue c.queue-sprouts.new.queue c.loop-j.invariant
-    (subst (λ u. Joined T (Sprout T u) (sprout_count T) c.loop-j.queue c.queue-sprouts.new.queue) (settled.leader j c.loop-j-test.true) c.queue-sprouts.ensures)
+    pending_sprouts T settled.proper table.records.settled j c.loop-j.queue c.queue_sprouts.new.queue c.loop-j.invariant
+    (subst (λ u. Joined T (Sprout T u) (sprout_count T) c.loop-j.queue c.queue_sprouts.new.queue) (settled.leader j c.loop-j-test.true) c.queue_sprouts.ensures)
 
 pub offset_bounds-self-j : goal.offset_bounds-self-j
 offset_bounds-self-j g c = omega (arith, settled_most _ _ c.requires.settled, c.loop-j-test.true)

@@ -40,9 +40,9 @@ loop-place-preserved g c =
     let u = c.args.mark.number in
     let place = c.loop-place.place in
     let old = c.args.queue.now in
-    let new = c.queue-symbols.new.queue in
+    let new = c.queue_symbols.new.queue in
     joined_weaker T (SproutBelow T u (place + 1)) (SproutBelow T u (place + 1)) (place * more + more) ((place + 1) * more) old new
-    (joined_then T (SproutBelow T u place) (PutBelow T u place T.symbols.q) (SproutBelow T u (place + 1)) (place * more) more old c.loop-place.queue new c.loop-place.invariant c.queue-symbols.ensures (sprout_below_more T u place))
+    (joined_then T (SproutBelow T u place) (PutBelow T u place T.symbols.q) (SproutBelow T u (place + 1)) (place * more) more old c.loop-place.queue new c.loop-place.invariant c.queue_symbols.ensures (sprout_below_more T u place))
     (omega (arith, add-mul place 1 more, one-mul more)) (λ v h. h)
 
 pub returns : goal.returns

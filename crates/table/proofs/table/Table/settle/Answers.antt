@@ -16,7 +16,7 @@ write-requires g c =
     let settled = c.requires.settled in
     let check = check_inside T c.args.self.now.records settled c.args.number in
     record {
-      room = (omega (arith, few_leaders T settled.proper, settled.proper.few_cosets, c.requires.next.within), omega (arith, check, c.check-number-check.ensures));
+      room = (omega (arith, few_leaders T settled.proper, settled.proper.few_cosets, c.requires.next.within), omega (arith, check, c.check_number-check.ensures));
       long = (settled.long_leaders, settled.long_numbers);
     }
 
@@ -25,7 +25,7 @@ after : (g : given.Over) (c : After-write g) → Settled (scheme_of g.A.Alphabet
 after g c =
     let T = scheme_of g.A.Alphabet.symbols g.R.Rule.ranks c.args.self.now in
     let records = c.args.self.now.records in
-    let is : c.write.new.self ≡ recorded records c.args.number (check_of T c.args.number) = c.write.ensures ∙ ap (recorded records c.args.number) c.check-number-check.ensures in
+    let is : c.write.new.self ≡ recorded records c.args.number (check_of T c.args.number) = c.write.ensures ∙ ap (recorded records c.args.number) c.check_number-check.ensures in
     subst (Settled T) (sym is) (settled_more T records c.requires.settled c.args.number c.requires.next.within c.requires.next.is)
 
 pub queue_sprouts-requires : goal.queue_sprouts-requires
@@ -43,7 +43,7 @@ pub returns : goal.returns
 returns g c =
     let T = scheme_of g.A.Alphabet.symbols g.R.Rule.ranks c.args.self.now in
     let k = c.args.self.now.records.settled in
-    let new = c.queue-sprouts.new.queue in
+    let new = c.queue_sprouts.new.queue in
     let more : c.write.new.self.settled ≡ k + 1 = ap (λ records. records.settled) c.write.ensures in
     record {
       subject = record { alphabet = refl; rule = refl; code = refl };
@@ -51,5 +51,5 @@ returns g c =
       settled = after g (goal.at.returns g c).After-write;
       pending = subst (λ m. Pending T m m new) (sym more)
           (pending_sprouts T c.requires.settled.proper (k + 1) k c.args.queue.now new c.requires.next.pending
-          (subst (λ u. Joined T (Sprout T u) (sprout_count T) c.args.queue.now new) (sym c.requires.next.is) c.queue-sprouts.ensures));
+          (subst (λ u. Joined T (Sprout T u) (sprout_count T) c.args.queue.now new) (sym c.requires.next.is) c.queue_sprouts.ensures));
     }
