@@ -7,28 +7,16 @@ pub invariant_of-result : goal.invariant_of-result
 invariant_of-result c =
     let limits = c.requires.limits in
     let room = most_checks c.args.q c.args.n c.args.r limits in
-    let items = c.padded.ensures.whole (omega (arith, room, c.requires.long)) in (
-      (limits.least_q, limits.most_q),
-      (
-        (limits.least_n, limits.most_n),
-        (
-          (limits.least_r, limits.most_r),
-          (
-            c.padded.ensures.len,
-            (
-              room,
-              (
-                (λ k h. omega (arith, items k, c.requires.below k h)),
-                (
-                  (λ k h. items k ∙ get_or_past c.args.symbols.now k 0 (omega (arith, c.requires.long))),
-                  tt,
-                ),
-              ),
-            ),
-          ),
-        ),
-      ),
-    )
+    let items = c.padded.ensures.whole (omega (arith, room, c.requires.long)) in
+    record {
+      counts = (limits.least_q, limits.most_q);
+      places = (limits.least_n, limits.most_n);
+      rows = (limits.least_r, limits.most_r);
+      long = c.padded.ensures.len;
+      room = room;
+      symbols = λ k h. omega (arith, items k, c.requires.below k h);
+      past = λ k h. items k ∙ get_or_past c.args.symbols.now k 0 (omega (arith, c.requires.long));
+    }
 
 pub returns : goal.returns
 returns c =

@@ -20,8 +20,8 @@ part file rest at size e =
     let whole : size - 0 ≡ size = omega arith in
     ap (λ k. take k (take (length rest - 3) (drop 3 rest))) whole ∙ ap (take size) (take_rest rest 3 ∙ ap (drop 3) e ∙ drop-drop 3 at file)
 
-pub returns-in-default : goal.returns-in-default
-returns-in-default c = record {
+pub returns-in_default : goal.returns-in_default
+returns-in_default c = record {
   file = refl;
   judged = head_fails c.args.self.now.file.now c.args.self.now.offset c.args.tag c.args.size (omega (arith, ltb-true));
 }
@@ -65,7 +65,7 @@ returns-then-rest-size c =
     }
 
 pub invariant_of-self : goal.invariant_of-self
-invariant_of-self c = (omega (arith, ltb-false, ap length (take_rest c.rest.result.now 3), length-drop 3 c.rest.result.now), tt)
+invariant_of-self c = record { within = omega (arith, ltb-false, ap length (take_rest c.rest.result.now 3), length-drop 3 c.rest.result.now) }
 
 pub returns : goal.returns
 returns c =

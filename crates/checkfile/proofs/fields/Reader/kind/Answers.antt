@@ -14,15 +14,15 @@ returns-in_err-field c =
       judged = rw (p.1, p.2) (first_here (field_tests c.args.self.now.file.now c.args.self.now.offset 4 1) _ _ c.in_err-field.ensures.judged);
     }
 
-pub returns-in-default : goal.returns-in-default
-returns-in-default c =
+pub returns-in_default : goal.returns-in_default
+returns-in_default c =
     let file = c.args.self.now.file.now in
     let at = c.args.self.now.offset in
     let f = c.in_ok-field.ensures.judged in
     let b = first_byte file _ at 1 f.1.1 (omega arith) in
     record {
       file = c.field.ensures.file;
-      judged = value_fails (field_tests file at 4 1) _ (RuleByte (at + 3)) f.0 (ap is_kind (sym b) ∙ c.in-default.ensures) ∙ ap (λ k. Some (RuleByte k)) (sym f.1.0);
+      judged = value_fails (field_tests file at 4 1) _ (RuleByte (at + 3)) f.0 (ap is_kind (sym b) ∙ c.in_default.ensures) ∙ ap (λ k. Some (RuleByte k)) (sym f.1.0);
     }
 
 pub returns : goal.returns
