@@ -10,7 +10,7 @@ use marks::mark::Mark;
 
 // The sum over all places of symbol times check symbol j.
 pub fn check_value<A: Alphabet>(alphabet: &A, code: &Code, mark: Mark, j: usize) -> u8
-    ensures { result ≡ check_value symbols (checks_of code.now) mark.number j }
+    ensures { result ≡ check_value A.symbols (checks_of code.now) mark.number j }
 {
     let mut sum = 0;
     for i in 0..code.n() {
@@ -36,7 +36,7 @@ fn number_of(q: u8, sums: &[u8]) -> usize
 }
 
 pub fn check_number<A: Alphabet>(alphabet: &A, code: &Code, mark: Mark) -> usize
-    ensures { result ≡ check_number symbols (checks_of code.now) mark.number }
+    ensures { result ≡ check_number A.symbols (checks_of code.now) mark.number }
 {
     let mut sums = [0; 8];
     for j in 0..code.r() {
@@ -47,9 +47,9 @@ pub fn check_number<A: Alphabet>(alphabet: &A, code: &Code, mark: Mark) -> usize
 
 // A code word is a mark whose check number is 0: every check value is 0 then, and only then.
 pub fn is_code_word<A: Alphabet>(alphabet: &A, code: &Code, mark: Mark) -> bool
-    ensures number { result ≡ (check_number symbols (checks_of code.now) mark.number == 0) }
-    ensures lawful { result ≡ true → (j : ℕ) → j < code.now.r → check_value symbols (checks_of code.now) mark.number j ≡ 0 }
-    ensures only { ((j : ℕ) → j < code.now.r → check_value symbols (checks_of code.now) mark.number j ≡ 0) → result ≡ true }
+    ensures number { result ≡ (check_number A.symbols (checks_of code.now) mark.number == 0) }
+    ensures lawful { result ≡ true → (j : ℕ) → j < code.now.r → check_value A.symbols (checks_of code.now) mark.number j ≡ 0 }
+    ensures only { ((j : ℕ) → j < code.now.r → check_value A.symbols (checks_of code.now) mark.number j ≡ 0) → result ≡ true }
 {
     check_number(alphabet, code, mark) == 0
 }

@@ -17,25 +17,25 @@ fn grow<A: Alphabet, R: Rule>(
     amount: usize,
     entry: &mut Entry,
 ) -> Result<Answer, Refusal>
-    requires { Kept symbols R.Rule.ranks table.old }
-    ensures grown { Grown symbols R.Rule.ranks (growth_by (scheme_of symbols R.Rule.ranks table.old) (Call.Grow amount) (vec_len entry.old.scratch)) table.old table.new }
-    ensures done { Done (scheme_of symbols R.Rule.ranks table.old) table.old.records.settled (Call.Grow amount) entry.old entry.new result }
+    requires { Kept A.symbols R.Rule.ranks table.old }
+    ensures grown { Grown A.symbols R.Rule.ranks (growth_by (scheme_of A.symbols R.Rule.ranks table.old) (Call.Grow amount) (vec_len entry.old.scratch)) table.old table.new }
+    ensures done { Done (scheme_of A.symbols R.Rule.ranks table.old) table.old.records.settled (Call.Grow amount) entry.old entry.new result }
 {
     table.grow(amount, entry.scratch.as_mut_slice())?;
     Ok(Answer::Grown)
 }
 
 fn tally<A: Alphabet, R: Rule>(table: &Table<A, R>) -> Result<Answer, Refusal>
-    requires { Kept symbols R.Rule.ranks table.now }
-    ensures { (entry : Entry) → result ≡ answer_by (scheme_of symbols R.Rule.ranks table.now) table.now.records.settled Call.Tally entry }
+    requires { Kept A.symbols R.Rule.ranks table.now }
+    ensures { (entry : Entry) → result ≡ answer_by (scheme_of A.symbols R.Rule.ranks table.now) table.now.records.settled Call.Tally entry }
 {
     let (count, finished) = table.tally();
     Ok(Answer::Tally(count, finished))
 }
 
 fn find<A: Alphabet, R: Rule>(table: &Table<A, R>, entry: &mut Entry) -> Result<Answer, Refusal>
-    requires { Kept symbols R.Rule.ranks table.now }
-    ensures { Done (scheme_of symbols R.Rule.ranks table.now) table.now.records.settled Call.Find entry.old entry.new result }
+    requires { Kept A.symbols R.Rule.ranks table.now }
+    ensures { Done (scheme_of A.symbols R.Rule.ranks table.now) table.now.records.settled Call.Find entry.old entry.new result }
 {
     let number = table.find(
         entry.mark.as_slice(),
@@ -46,17 +46,17 @@ fn find<A: Alphabet, R: Rule>(table: &Table<A, R>, entry: &mut Entry) -> Result<
 }
 
 fn leader<A: Alphabet, R: Rule>(table: &Table<A, R>, j: usize) -> Result<Answer, Refusal>
-    requires { Kept symbols R.Rule.ranks table.now }
-    ensures { (entry : Entry) → result ≡ answer_by (scheme_of symbols R.Rule.ranks table.now) table.now.records.settled (Call.Leader j) entry }
+    requires { Kept A.symbols R.Rule.ranks table.now }
+    ensures { (entry : Entry) → result ≡ answer_by (scheme_of A.symbols R.Rule.ranks table.now) table.now.records.settled (Call.Leader j) entry }
 {
     Ok(Answer::Leader(table.leader(j)?))
 }
 
 // Makes one call, and notes its answer.
 fn make<A: Alphabet, R: Rule>(table: &mut Table<A, R>, entry: &mut Entry)
-    requires { Kept symbols R.Rule.ranks table.old }
-    ensures grown { Grown symbols R.Rule.ranks (growth_of (scheme_of symbols R.Rule.ranks table.old) entry.old) table.old table.new }
-    ensures made { Made (scheme_of symbols R.Rule.ranks table.old) table.old.records.settled entry.old entry.new }
+    requires { Kept A.symbols R.Rule.ranks table.old }
+    ensures grown { Grown A.symbols R.Rule.ranks (growth_of (scheme_of A.symbols R.Rule.ranks table.old) entry.old) table.old table.new }
+    ensures made { Made (scheme_of A.symbols R.Rule.ranks table.old) table.old.records.settled entry.old entry.new }
 {
     let answer = match entry.call {
         Call::Grow(amount) => grow(table, amount, entry),
@@ -75,9 +75,9 @@ pub fn replay<A: Alphabet + Drop, R: Rule + Drop>(
     alphabet: A,
     entries: &mut [Entry],
 ) -> Result<(), Refusal>
-    ensures opened { result ≡ opened_by (open_refusal code (R.Rule.ranks rule).n symbols.q) }
+    ensures opened { result ≡ opened_by (open_refusal code (R.Rule.ranks rule).n A.symbols.q) }
     ensures refused { is_ok result ≡ false → entries.new ≡ entries.old }
-    ensures history { is_ok result ≡ true → History (scheme_over symbols code (R.Rule.ranks rule)) entries.old entries.new }
+    ensures history { is_ok result ≡ true → History (scheme_over A.symbols code (R.Rule.ranks rule)) entries.old entries.new }
 {
     let Opened { mut table, refused } = Table::open(code, rule, alphabet);
     if let Some(refusal) = refused {

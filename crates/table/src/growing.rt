@@ -56,12 +56,12 @@ impl Records {
 impl<A: Alphabet, R: Rule> Table<A, R> {
     // Queues the mark with each nonzero symbol put at the place. There is room for them.
     fn queue_symbols(&self, queue: &mut Queue<'_, u64>, mark: Mark, place: usize)
-        requires settled { Settled (scheme_of symbols R.Rule.ranks self.now) self.now.records }
-        requires mark { MarkOf (scheme_of symbols R.Rule.ranks self.now) mark.number }
+        requires settled { Settled (scheme_of A.symbols R.Rule.ranks self.now) self.now.records }
+        requires mark { MarkOf (scheme_of A.symbols R.Rule.ranks self.now) mark.number }
         requires place { place < self.now.code.n }
         requires within { Within queue.old }
-        requires room { queue.old.held + (symbols.q - 1) ≤ length (places_of queue.old) }
-        ensures { Joined (scheme_of symbols R.Rule.ranks self.now) (PutBelow (scheme_of symbols R.Rule.ranks self.now) mark.number place symbols.q) (symbols.q - 1) queue.old queue.new }
+        requires room { queue.old.held + (A.symbols.q - 1) ≤ length (places_of queue.old) }
+        ensures { Joined (scheme_of A.symbols R.Rule.ranks self.now) (PutBelow (scheme_of A.symbols R.Rule.ranks self.now) mark.number place A.symbols.q) (A.symbols.q - 1) queue.old queue.new }
     {
         for symbol in 1..self.alphabet.count() {
             let _ = queue.put(&self.rule, mark.set(place, symbol).number);
@@ -70,11 +70,11 @@ impl<A: Alphabet, R: Rule> Table<A, R> {
 
     // Queues the mark's sprouts. There is room for them.
     fn queue_sprouts(&self, queue: &mut Queue<'_, u64>, mark: Mark)
-        requires settled { Settled (scheme_of symbols R.Rule.ranks self.now) self.now.records }
-        requires mark { MarkOf (scheme_of symbols R.Rule.ranks self.now) mark.number }
+        requires settled { Settled (scheme_of A.symbols R.Rule.ranks self.now) self.now.records }
+        requires mark { MarkOf (scheme_of A.symbols R.Rule.ranks self.now) mark.number }
         requires within { Within queue.old }
-        requires room { queue.old.held + sprout_count (scheme_of symbols R.Rule.ranks self.now) ≤ length (places_of queue.old) }
-        ensures { Joined (scheme_of symbols R.Rule.ranks self.now) (Sprout (scheme_of symbols R.Rule.ranks self.now) mark.number) (sprout_count (scheme_of symbols R.Rule.ranks self.now)) queue.old queue.new }
+        requires room { queue.old.held + sprout_count (scheme_of A.symbols R.Rule.ranks self.now) ≤ length (places_of queue.old) }
+        ensures { Joined (scheme_of A.symbols R.Rule.ranks self.now) (Sprout (scheme_of A.symbols R.Rule.ranks self.now) mark.number) (sprout_count (scheme_of A.symbols R.Rule.ranks self.now)) queue.old queue.new }
     {
         for place in height(mark, self.code.n())..self.code.n() {
             self.queue_symbols(queue, mark, place);
@@ -83,10 +83,10 @@ impl<A: Alphabet, R: Rule> Table<A, R> {
 
     // Queues what waits: the sprouts of the settled leaders, or 0 where none is settled.
     fn queue_pending(&self, queue: &mut Queue<'_, u64>)
-        requires settled { Settled (scheme_of symbols R.Rule.ranks self.now) self.now.records }
+        requires settled { Settled (scheme_of A.symbols R.Rule.ranks self.now) self.now.records }
         requires empty { queue.old.held ≡ 0 }
-        requires room { scratch_size (scheme_of symbols R.Rule.ranks self.now) ≤ length (places_of queue.old) }
-        ensures { Pending (scheme_of symbols R.Rule.ranks self.now) self.now.records.settled self.now.records.settled queue.new }
+        requires room { scratch_size (scheme_of A.symbols R.Rule.ranks self.now) ≤ length (places_of queue.old) }
+        ensures { Pending (scheme_of A.symbols R.Rule.ranks self.now) self.now.records.settled self.now.records.settled queue.new }
     {
         if self.records.settled == 0 {
             let _ = queue.put(&self.rule, 0);
@@ -99,9 +99,9 @@ impl<A: Alphabet, R: Rule> Table<A, R> {
 
     // Takes marks from the queue until one has a coset that is not settled: the next leader.
     fn next_leader(&self, queue: &mut Queue<'_, u64>) -> Option<u64>
-        requires settled { Settled (scheme_of symbols R.Rule.ranks self.now) self.now.records }
-        requires pending { Pending (scheme_of symbols R.Rule.ranks self.now) self.now.records.settled self.now.records.settled queue.old }
-        ensures { Next (scheme_of symbols R.Rule.ranks self.now) self.now.records.settled queue.new result }
+        requires settled { Settled (scheme_of A.symbols R.Rule.ranks self.now) self.now.records }
+        requires pending { Pending (scheme_of A.symbols R.Rule.ranks self.now) self.now.records.settled self.now.records.settled queue.old }
+        ensures { Next (scheme_of A.symbols R.Rule.ranks self.now) self.now.records.settled queue.new result }
     {
         while let Some(number) = queue.take(&self.rule) {
             let check = check_number(&self.alphabet, &self.code, Mark { number });
@@ -114,12 +114,12 @@ impl<A: Alphabet, R: Rule> Table<A, R> {
 
     // Writes the record of the next leader, and queues its sprouts.
     fn settle(&mut self, queue: &mut Queue<'_, u64>, number: u64)
-        requires settled { Settled (scheme_of symbols R.Rule.ranks self.old) self.old.records }
-        requires next { NextIs (scheme_of symbols R.Rule.ranks self.old) self.old.records.settled queue.old number }
+        requires settled { Settled (scheme_of A.symbols R.Rule.ranks self.old) self.old.records }
+        requires next { NextIs (scheme_of A.symbols R.Rule.ranks self.old) self.old.records.settled queue.old number }
         ensures subject { SameSubject self.old self.new }
         ensures count { self.new.records.settled ≡ self.old.records.settled + 1 }
-        ensures settled { Settled (scheme_of symbols R.Rule.ranks self.old) self.new.records }
-        ensures pending { Pending (scheme_of symbols R.Rule.ranks self.old) self.new.records.settled self.new.records.settled queue.new }
+        ensures settled { Settled (scheme_of A.symbols R.Rule.ranks self.old) self.new.records }
+        ensures pending { Pending (scheme_of A.symbols R.Rule.ranks self.old) self.new.records.settled self.new.records.settled queue.new }
     {
         let mark = Mark { number };
         let check = check_number(&self.alphabet, &self.code, mark);
@@ -129,12 +129,12 @@ impl<A: Alphabet, R: Rule> Table<A, R> {
 
     // Settles further leaders, as many as wanted or all that remain.
     fn settle_next(&mut self, queue: &mut Queue<'_, u64>, amount: usize)
-        requires settled { Settled (scheme_of symbols R.Rule.ranks self.old) self.old.records }
-        requires pending { Pending (scheme_of symbols R.Rule.ranks self.old) self.old.records.settled self.old.records.settled queue.old }
+        requires settled { Settled (scheme_of A.symbols R.Rule.ranks self.old) self.old.records }
+        requires pending { Pending (scheme_of A.symbols R.Rule.ranks self.old) self.old.records.settled self.old.records.settled queue.old }
         ensures subject { SameSubject self.old self.new }
-        ensures count { self.new.records.settled ≡ min (coset_count (scheme_of symbols R.Rule.ranks self.old)) (self.old.records.settled + amount) }
-        ensures settled { Settled (scheme_of symbols R.Rule.ranks self.old) self.new.records }
-        ensures pending { Pending (scheme_of symbols R.Rule.ranks self.old) self.new.records.settled self.new.records.settled queue.new }
+        ensures count { self.new.records.settled ≡ min (coset_count (scheme_of A.symbols R.Rule.ranks self.old)) (self.old.records.settled + amount) }
+        ensures settled { Settled (scheme_of A.symbols R.Rule.ranks self.old) self.new.records }
+        ensures pending { Pending (scheme_of A.symbols R.Rule.ranks self.old) self.new.records.settled self.new.records.settled queue.new }
     {
         for _ in 0..amount {
             let Some(number) = self.next_leader(queue) else {
@@ -146,9 +146,9 @@ impl<A: Alphabet, R: Rule> Table<A, R> {
 
     // Settles further leaders in ranking order, as many as wanted or all that remain. The queue lives in the scratch.
     pub fn grow(&mut self, amount: usize, scratch: &mut [u64]) -> Result<(), Refusal>
-        requires { Kept symbols R.Rule.ranks self.old }
-        ensures answer { result ≡ grow_answer (scheme_of symbols R.Rule.ranks self.old) amount (length scratch.old) }
-        ensures grown { Grown symbols R.Rule.ranks (accepted (scheme_of symbols R.Rule.ranks self.old) amount (length scratch.old)) self.old self.new }
+        requires { Kept A.symbols R.Rule.ranks self.old }
+        ensures answer { result ≡ grow_answer (scheme_of A.symbols R.Rule.ranks self.old) amount (length scratch.old) }
+        ensures grown { Grown A.symbols R.Rule.ranks (accepted (scheme_of A.symbols R.Rule.ranks self.old) amount (length scratch.old)) self.old self.new }
         ensures refused { is_ok result ≡ false → (self.new ≡ self.old) × (scratch.new ≡ scratch.old) }
     {
         if amount > MOST {

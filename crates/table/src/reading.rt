@@ -17,16 +17,16 @@ use rules::rule::Rule;
 impl<A: Alphabet, R: Rule> Table<A, R> {
     // How many leaders are settled, and whether every coset is.
     pub fn tally(&self) -> (usize, bool)
-        requires { Kept symbols R.Rule.ranks self.now }
-        ensures { result ≡ tally_answer (scheme_of symbols R.Rule.ranks self.now) self.now.records.settled }
+        requires { Kept A.symbols R.Rule.ranks self.now }
+        ensures { result ≡ tally_answer (scheme_of A.symbols R.Rule.ranks self.now) self.now.records.settled }
     {
         (self.records.settled, self.records.finished)
     }
 
     // The mark number of leader j, counted from 1.
     pub fn leader(&self, j: usize) -> Result<u64, Refusal>
-        requires { Kept symbols R.Rule.ranks self.now }
-        ensures { result ≡ leader_answer (scheme_of symbols R.Rule.ranks self.now) self.now.records.settled j }
+        requires { Kept A.symbols R.Rule.ranks self.now }
+        ensures { result ≡ leader_answer (scheme_of A.symbols R.Rule.ranks self.now) self.now.records.settled j }
     {
         if j == 0 || j > self.records.settled {
             return Err(Refusal::OutOfRange);
@@ -36,19 +36,19 @@ impl<A: Alphabet, R: Rule> Table<A, R> {
 
     // The mark of the table that the bytes spell.
     fn sound_mark(&self, bytes: &[u8]) -> Result<Mark, Refusal>
-        requires { Kept symbols R.Rule.ranks self.now }
-        ensures value { result ≡ reading symbols self.now.code.n bytes.now }
-        ensures sound { IfOk result (λ mark. (mark.number ≡ number_of bytes.now) × MarkOf (scheme_of symbols R.Rule.ranks self.now) mark.number) }
+        requires { Kept A.symbols R.Rule.ranks self.now }
+        ensures value { result ≡ reading A.symbols self.now.code.n bytes.now }
+        ensures sound { IfOk result (λ mark. (mark.number ≡ number_of bytes.now) × MarkOf (scheme_of A.symbols R.Rule.ranks self.now) mark.number) }
     {
         Mark::read(&self.alphabet, self.code.n(), bytes)
     }
 
     // The number of the leader of the mark's coset, where it is settled.
     fn settled_number(&self, mark: Mark) -> Result<usize, Refusal>
-        requires kept { Kept symbols R.Rule.ranks self.now }
-        requires mark { MarkOf (scheme_of symbols R.Rule.ranks self.now) mark.number }
-        ensures value { result ≡ settled_number (scheme_of symbols R.Rule.ranks self.now) self.now.records.settled mark.number }
-        ensures settled { IfOk result (λ number. (number ≡ leader_number (scheme_of symbols R.Rule.ranks self.now) mark.number) × (number ≤ self.now.records.settled)) }
+        requires kept { Kept A.symbols R.Rule.ranks self.now }
+        requires mark { MarkOf (scheme_of A.symbols R.Rule.ranks self.now) mark.number }
+        ensures value { result ≡ settled_number (scheme_of A.symbols R.Rule.ranks self.now) self.now.records.settled mark.number }
+        ensures settled { IfOk result (λ number. (number ≡ leader_number (scheme_of A.symbols R.Rule.ranks self.now) mark.number) × (number ≤ self.now.records.settled)) }
     {
         let number = self.records.numbers[check_number(&self.alphabet, &self.code, mark)];
         if number == 0 {
@@ -65,12 +65,12 @@ impl<A: Alphabet, R: Rule> Table<A, R> {
         correction: &mut [u8],
         corrected: &mut [u8],
     )
-        requires kept { Kept symbols R.Rule.ranks self.now }
-        requires mark { MarkOf (scheme_of symbols R.Rule.ranks self.now) mark.number }
-        requires number { (number ≡ leader_number (scheme_of symbols R.Rule.ranks self.now) mark.number) × (number ≤ self.now.records.settled) }
+        requires kept { Kept A.symbols R.Rule.ranks self.now }
+        requires mark { MarkOf (scheme_of A.symbols R.Rule.ranks self.now) mark.number }
+        requires number { (number ≡ leader_number (scheme_of A.symbols R.Rule.ranks self.now) mark.number) × (number ≤ self.now.records.settled) }
         requires long { (length correction.old ≡ self.now.code.n) × (length corrected.old ≡ self.now.code.n) }
-        ensures correction { correction.new ≡ bytes_of self.now.code.n (leader_of (scheme_of symbols R.Rule.ranks self.now) mark.number) }
-        ensures corrected { corrected.new ≡ bytes_of self.now.code.n (minus symbols self.now.code.n mark.number (leader_of (scheme_of symbols R.Rule.ranks self.now) mark.number)) }
+        ensures correction { correction.new ≡ bytes_of self.now.code.n (leader_of (scheme_of A.symbols R.Rule.ranks self.now) mark.number) }
+        ensures corrected { corrected.new ≡ bytes_of self.now.code.n (minus A.symbols self.now.code.n mark.number (leader_of (scheme_of A.symbols R.Rule.ranks self.now) mark.number)) }
     {
         let leader = Mark {
             number: self.records.leaders[number - 1],
@@ -87,10 +87,10 @@ impl<A: Alphabet, R: Rule> Table<A, R> {
         correction: &mut [u8],
         corrected: &mut [u8],
     ) -> Result<usize, Refusal>
-        requires { Kept symbols R.Rule.ranks self.now }
-        ensures answer { result ≡ find_answer (scheme_of symbols R.Rule.ranks self.now) self.now.records.settled mark.now (length correction.old) (length corrected.old) }
-        ensures correction { correction.new ≡ written (scheme_of symbols R.Rule.ranks self.now) result (correction_of (scheme_of symbols R.Rule.ranks self.now) mark.now) correction.old }
-        ensures corrected { corrected.new ≡ written (scheme_of symbols R.Rule.ranks self.now) result (corrected_of (scheme_of symbols R.Rule.ranks self.now) mark.now) corrected.old }
+        requires { Kept A.symbols R.Rule.ranks self.now }
+        ensures answer { result ≡ find_answer (scheme_of A.symbols R.Rule.ranks self.now) self.now.records.settled mark.now (length correction.old) (length corrected.old) }
+        ensures correction { correction.new ≡ written (scheme_of A.symbols R.Rule.ranks self.now) result (correction_of (scheme_of A.symbols R.Rule.ranks self.now) mark.now) correction.old }
+        ensures corrected { corrected.new ≡ written (scheme_of A.symbols R.Rule.ranks self.now) result (corrected_of (scheme_of A.symbols R.Rule.ranks self.now) mark.now) corrected.old }
     {
         let seen = self.sound_mark(mark)?;
         if correction.len() != self.code.n() || corrected.len() != self.code.n() {

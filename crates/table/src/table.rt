@@ -39,10 +39,10 @@ pub struct Opened<A, R> {
 impl<A: Alphabet, R: Rule> Table<A, R> {
     // A table with no leader settled.
     pub fn open(code: Code, rule: R, alphabet: A) -> Opened<A, R>
-        ensures refused { result.refused ≡ open_refusal code (R.Rule.ranks rule).n symbols.q }
+        ensures refused { result.refused ≡ open_refusal code (R.Rule.ranks rule).n A.symbols.q }
         ensures subject { (result.table.code ≡ code) × (result.table.rule ≡ rule) × (result.table.alphabet ≡ alphabet) }
         ensures settled { result.table.records.settled ≡ 0 }
-        ensures kept { result.refused ≡ None → Kept symbols R.Rule.ranks result.table }
+        ensures kept { result.refused ≡ None → Kept A.symbols R.Rule.ranks result.table }
     {
         let refused = if rule.places() == code.n() && alphabet.count() == code.q() {
             None
