@@ -34,7 +34,7 @@ fn check_values<A: Alphabet>(
     code: &Code,
     mark: Mark,
 ) -> Result<Vec<u8>, AllocError>
-    ensures { IfOk result (λ values. values.items ≡ values_of symbols (checks_of code.now) mark.number) }
+    ensures { IfOk result (λ values. values.items ≡ values_of A.symbols (checks_of code.now) mark.number) }
 {
     let mut values = Vec::new(heap);
     for j in 0..code.r() {
@@ -50,7 +50,7 @@ fn line_over<A: Alphabet>(
     line: usize,
     characters: &[u8],
 ) -> Result<String, AllocError>
-    ensures { IfOk result (λ text. string_bytes text ≡ inspected symbols (checks_of code.now) line characters.now) }
+    ensures { IfOk result (λ text. string_bytes text ≡ inspected A.symbols (checks_of code.now) line characters.now) }
 {
     let read = symbols(heap, characters)?;
     match Mark::read(alphabet, code.n(), read.as_slice()) {
