@@ -198,7 +198,7 @@ fn what_was_read_is_written(rt: HostRuntime) {
     let mut buffer = [9; 48];
     assert_eq!(rt; write(&reading.code, &reading.rule, &mut buffer), Ok(46));
     assert_eq!(rt; &buffer[0..46], &S[0..46]);
-    assert_eq!(rt; &buffer[46..48], &[9, 9]);
+    assert_eq!(rt; &buffer[46..48], [9, 9].as_slice());
     let priced = read(&PRICED);
     let mut exact = [9; 25];
     assert_eq!(rt; write(&priced.code, &priced.rule, &mut exact), Ok(25));

@@ -105,11 +105,17 @@ mod tests {
 
     #[test]
     fn lines_end_at_newlines_or_with_the_input(rt: HostRuntime) -> Result<(), Fail> {
-        assert_eq!(rt; barred(rt.alloc(), b"")?.as_slice(), b"");
-        assert_eq!(rt; barred(rt.alloc(), b"\n")?.as_slice(), b"|");
-        assert_eq!(rt; barred(rt.alloc(), b"a")?.as_slice(), b"a|");
-        assert_eq!(rt; barred(rt.alloc(), b"a\nb\n")?.as_slice(), b"a|b|");
-        assert_eq!(rt; barred(rt.alloc(), b"a\r\n\nb")?.as_slice(), b"a\r||b|");
+        assert_eq!(rt; barred(rt.alloc(), b"")?.as_slice(), b"".as_slice());
+        assert_eq!(rt; barred(rt.alloc(), b"\n")?.as_slice(), b"|".as_slice());
+        assert_eq!(rt; barred(rt.alloc(), b"a")?.as_slice(), b"a|".as_slice());
+        assert_eq!(rt;
+            barred(rt.alloc(), b"a\nb\n")?.as_slice(),
+            b"a|b|".as_slice()
+        );
+        assert_eq!(rt;
+            barred(rt.alloc(), b"a\r\n\nb")?.as_slice(),
+            b"a\r||b|".as_slice()
+        );
         Ok(())
     }
 
@@ -118,9 +124,12 @@ mod tests {
         let mut reader: &[u8] = b"a\n\nb\nc";
         assert_eq!(rt;
             first_lines(rt.alloc(), &mut reader, 3)?.as_slice(),
-            b"a\n\nb\n"
+            b"a\n\nb\n".as_slice()
         );
-        assert_eq!(rt; first_lines(rt.alloc(), &mut reader, 3)?.as_slice(), b"c");
+        assert_eq!(rt;
+            first_lines(rt.alloc(), &mut reader, 3)?.as_slice(),
+            b"c".as_slice()
+        );
         Ok(())
     }
 
@@ -128,7 +137,7 @@ mod tests {
     fn dots_and_digits_are_symbols(rt: HostRuntime) -> Result<(), Fail> {
         assert_eq!(rt;
             symbols(rt.alloc(), b"0.1x23")?.as_slice(),
-            &[0, 0, 1, NO_SYMBOL, 2, 3]
+            [0, 0, 1, NO_SYMBOL, 2, 3].as_slice()
         );
         Ok(())
     }
