@@ -53,4 +53,4 @@ pub returns : goal.returns
 returns g c =
     let table = c.args.self.now in
     let T = scheme_of g.A.Alphabet.symbols g.R.Rule.ranks table in
-    taken_none T c.requires.settled.proper table.records.settled c.loop-number.queue c.take.new.self c.loop-number.invariant c.requires.settled.within c.in-default.ensures.answer
+    taken_none T c.requires.settled.proper table.records.settled c.loop-number.queue c.take.new.self c.loop-number.invariant c.requires.settled.within c.in_default.ensures.answer

@@ -7,7 +7,7 @@ use Rattle.table.proofs.Queues.{joined_none, joined_then, joined_weaker, sprout_
 use Rattle.table.proofs.table.Table.queue_sprouts.Goals as goal
 
 pub height-place-requires : goal.height-place-requires
-height-place-requires g c κs j h = digit_past c.args.self.now.code.n c.args.mark.number j c.requires.mark.short (omega (arith, c.n.ensures))
+height-place-requires g c j h = digit_past c.args.self.now.code.n c.args.mark.number j c.requires.mark.short (omega (arith, c.n.ensures))
 
 -- a place more takes at most its nonzero symbols more
 pub queue_symbols-requires : goal.queue_symbols-requires

@@ -35,12 +35,12 @@ loop-preserved g c =
     )
 
 -- none is next: all are settled
-pub returns-in-default : goal.returns-in-default
-returns-in-default g c =
+pub returns-in_default : goal.returns-in_default
+returns-in_default g c =
     let T = scheme_of g.A.Alphabet.symbols g.R.Rule.ranks c.args.self.now in
     let same = same_scheme g.A.Alphabet.symbols g.R.Rule.ranks c.args.self.now c.loop.self c.loop.invariant.0 in
     let k = c.loop.self.records.settled in
-    let none : NoneNext T k c.next_leader.new.queue = subst (λ U. NoneNext U k c.next_leader.new.queue) same c.in-default.ensures in
+    let none : NoneNext T k c.next_leader.new.queue = subst (λ U. NoneNext U k c.next_leader.new.queue) same c.in_default.ensures in
     record {
       subject = c.loop.invariant.0;
       count = omega (arith, none.all, c.loop.invariant.1, c.loop-test.true);
