@@ -2,7 +2,7 @@
 use Rattle.std.proofs.Common.{◌≡◌, ℕ, zero, suc, ◌+◌, ◌^◌, ◌<◌, ◌≤◌, Bool, true, false, eqb, ◌⊎◌, List, ◌∷◌, length, get_or, sym, refl, ap, ◌∙◌, subst, inl, inr, ⊎_elim, arith}
 use native.Mathlib.Nat.{pow-le-pow_right}
 use Rattle.std.specs.List.Sorted.{IsPermutation}
-use Rattle.std.specs.List.{ContainsAt as Has, AllByRecursion as All}
+use Rattle.std.specs.List.{ContainsAt as Has, AllByRecursion}
 use Rattle.std.proofs.ByRecursion.{all-has, all_shuffled, has_shuffled}
 use Rattle.std.proofs.lemmas.Bool.{cond_both, cases_eq, cases_lt, eqb-false, true≢false}
 use Rattle.algebra.specs.Digits.{digit}
@@ -184,7 +184,7 @@ module _ (T : Scheme) (proper : Proper T) where
     sprouts = λ j v p s. ⊎_elim (λ a. inl (omega arith)) (λ a. go v (has_cases u rest v (has_shuffled items (u ∷ rest) v same a))) (waiting.sprouts j v p s);
   }
     where
-      all : All (MarkOf T) (u ∷ rest)
+      all : AllByRecursion (MarkOf T) (u ∷ rest)
       all = all_shuffled (MarkOf T) items (u ∷ rest) same waiting.marks
 
       go : (v : ℕ) → (u ≡ v) ⊎ Has rest v → (leader_number T v ≤ k') ⊎ Has rest v

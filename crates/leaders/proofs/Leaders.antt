@@ -1,6 +1,6 @@
 -- A coset's leader, and the list of all leaders in ranking order.
 use Rattle.std.proofs.Common.{◌≡◌, ℕ, zero, suc, ◌^◌, ◌<◌, ◌≤◌, Bool, true, eqb, ◌⊎◌, List, ◌∷◌, length, get_or, filter, sym, refl, ap, ◌∙◌, subst, inl, inr, ⊎_elim, arith}
-use Rattle.std.specs.List.{ContainsAt as Has, AllByRecursion as All}
+use Rattle.std.specs.List.{ContainsAt as Has, AllByRecursion}
 use Rattle.std.proofs.ByRecursion.{All-from_get_or, has_get_or}
 use Rattle.std.proofs.lemmas.Bool.{cases_order, eqb-true, eq-eqb, true≢false}
 use Rattle.algebra.specs.Digits.{digit}
@@ -13,7 +13,7 @@ use Rattle.leaders.proofs.Adding.{zero_mark, put_mark, check_below, filled_same,
 use Rattle.leaders.proofs.Ranked.{Order, Distinct, first_ranked_has, first_ranked_first, ranked_has, has_ranked, ranked_order, index_of_below, get_or_index_of, index_of_get_or, kept_has, has_kept, kept_distinct, all_marks_has, all_marks_short, all_marks_symbols, all_marks_distinct, pigeonhole}
 
 -- what holds of every element, by membership
-all_from_has : (P : ℕ → Type 0) (us : List ℕ) → ((u : ℕ) → Has us u → P u) → All P us
+all_from_has : (P : ℕ → Type 0) (us : List ℕ) → ((u : ℕ) → Has us u → P u) → AllByRecursion P us
 all_from_has P us h = All-from_get_or P us 0 (λ i k. h (get_or us i 0) (has_get_or us i 0 k))
 
 module _ (T : Scheme) (proper : Proper T) where

@@ -1,7 +1,7 @@
 -- Lists of marks: the first in rank, ranking order, places in a list, all marks, and the pigeonhole.
 use Rattle.std.proofs.Common.{◌≡◌, ℕ, zero, suc, ◌+◌, ◌*◌, ◌/◌, ◌%◌, ◌^◌, ◌<◌, ◌≤◌, Bool, true, false, cond, eqb, ltb, ◌⊎◌, List, [], ◌∷◌, ◌++◌, map, length, get_or, filter, sym, refl, ap, ◌∙◌, subst, inl, inr, arith}
 use native.Mathlib.Nat.{pow-succ'}
-use Rattle.std.specs.List.{range_with_len, ContainsAt as Has, flat_map, AllByRecursion as All}
+use Rattle.std.specs.List.{range_with_len, ContainsAt as Has, flat_map, AllByRecursion}
 use Rattle.std.proofs.lemmas.List.FromFn.{get_or-map-range_with_len, length-map-range_with_len}
 use Rattle.std.proofs.ByRecursion.{All-append, All-from_get_or, All-get_or, all-has, all_has_itself, all_kept_by, All-weaker, has_append_left, has_append_right, kept_by_passes}
 use Rattle.std.proofs.lemmas.Bool.{cases_Bool, cond_both, cond-false, cond-true, eq-eqb, eqb-false, eqb-true, lt-ltb, ltb-false, ltb-true, ne_eqb, true≢false}
@@ -43,13 +43,13 @@ has_swap v w us u h =
     ]
 
 -- P holds of each number of us if it does of each of ws, and ws has them all
-all_within : (P : ℕ → Type 0) (us ws : List ℕ) → ((u : ℕ) → Has us u → Has ws u) → All P ws → All P us
+all_within : (P : ℕ → Type 0) (us ws : List ℕ) → ((u : ℕ) → Has us u → Has ws u) → AllByRecursion P ws → AllByRecursion P us
 all_within P us ws within h = All-weaker (Has us) P (λ u k. all-has P ws u h (within u k)) us (all_has_itself us)
 
 -- R holds of each number of the list and each that stands later: Distinct and ranking order, for inductions
 abbrev Pairs : (ℕ → ℕ → Type 0) → List ℕ → Type 0
 Pairs R [] = Unit {0}
-Pairs R (u ∷ us) = All (R u) us × Pairs R us
+Pairs R (u ∷ us) = AllByRecursion (R u) us × Pairs R us
 
 abbrev Other : ℕ → ℕ → Type 0
 Other u v = u ≡ v → ⊥
@@ -67,7 +67,7 @@ module _ (R : ℕ → ℕ → Type 0) where
   pairs_from (u ∷ us) h =
       (All-from_get_or (R u) us 0 (λ j in'. h 0 (suc j) (omega arith) (omega arith)), pairs_from us (λ i j lt in'. h (suc i) (suc j) (omega arith) (omega arith)))
 
-  pairs_append : (us ws : List ℕ) → Pairs R us → Pairs R ws → All (λ u. All (R u) ws) us → Pairs R (us ++ ws)
+  pairs_append : (us ws : List ℕ) → Pairs R us → Pairs R ws → AllByRecursion (λ u. AllByRecursion (R u) ws) us → Pairs R (us ++ ws)
   pairs_append [] ws h k across = k
   pairs_append (u ∷ us) ws h k across = (All-append (R u) us ws h.0 across.0, pairs_append us ws h.1 k across.1)
 
@@ -105,7 +105,7 @@ module _ (before : ℕ → ℕ → Bool) (P : ℕ → Type 0) (order : Order bef
   not_after : (u v : ℕ) → P u → P v → before v u ≡ false → Upto u v
   not_after u v pu pv h = elim (cases_Bool (before u v)) [ inl k ↦ inr k | inr k ↦ inl (order.some_way u v pu pv k h) ]
 
-  pub first_ranked_first : (u : ℕ) (us : List ℕ) → All P (u ∷ us) → (v : ℕ) → Has (u ∷ us) v → (first_ranked before u us ≡ v) ⊎ (before (first_ranked before u us) v ≡ true)
+  pub first_ranked_first : (u : ℕ) (us : List ℕ) → AllByRecursion P (u ∷ us) → (v : ℕ) → Has (u ∷ us) v → (first_ranked before u us ≡ v) ⊎ (before (first_ranked before u us) v ≡ true)
   first_ranked_first u [] all v h = elim (has_cases u [] v h) [ inl e ↦ inl e | inr k ↦ absurd (omega (arith, k.1)) ]
   first_ranked_first u (w ∷ us) all v h =
       let x : ℕ = cond (before w u) w u in
@@ -153,7 +153,7 @@ module _ (before : ℕ → ℕ → Bool) (P : ℕ → Type 0) (order : Order bef
   length_ranked [] = refl
   length_ranked (u ∷ us) = length_insert u (ranked before us) ∙ ap suc (length_ranked us)
 
-  insert_order : (u : ℕ) (vs : List ℕ) → All P (u ∷ vs) → All (Other u) vs → Pairs Before vs → Pairs Before (insert before u vs)
+  insert_order : (u : ℕ) (vs : List ℕ) → AllByRecursion P (u ∷ vs) → AllByRecursion (Other u) vs → Pairs Before vs → Pairs Before (insert before u vs)
   insert_order u [] all other h = (tt, tt)
   insert_order u (v ∷ vs) all other h =
       let rest = insert_order u vs (all.0, all.1.1) other.1 h.1 in
@@ -164,13 +164,13 @@ module _ (before : ℕ → ℕ → Bool) (P : ℕ → Type 0) (order : Order bef
       front : before u v ≡ false → Before v u
       front e = elim (not_after v u all.1.0 all.0 e) [ inl same ↦ absurd (other.0 (sym same)) | inr k ↦ k ]
 
-  ranked_pairs : (us : List ℕ) → All P us → Pairs Other us → Pairs Before (ranked before us)
+  ranked_pairs : (us : List ℕ) → AllByRecursion P us → Pairs Other us → Pairs Before (ranked before us)
   ranked_pairs [] all other = tt
   ranked_pairs (u ∷ us) all other =
       insert_order u (ranked before us) (all.0, all_within P (ranked before us) us (has_ranked us) all.1)
       (all_within (Other u) (ranked before us) us (has_ranked us) other.0) (ranked_pairs us all.1 other.1)
 
-  pub ranked_order : (us : List ℕ) → All P us → Distinct us → (i j : ℕ) → i < j → j < length (ranked before us) → before (get_or (ranked before us) i 0) (get_or (ranked before us) j 0) ≡ true
+  pub ranked_order : (us : List ℕ) → AllByRecursion P us → Distinct us → (i j : ℕ) → i < j → j < length (ranked before us) → before (get_or (ranked before us) i 0) (get_or (ranked before us) j 0) ≡ true
   ranked_order us all distinct = pairs_at Before (ranked before us) (ranked_pairs us all (pairs_from Other us distinct))
 
 -- where a number stands
@@ -230,7 +230,7 @@ row_length q u = length-map-range_with_len (λ a. a + 4 * u) 0 q
 row_has : (q u a : ℕ) → a < q → Has (row q u) (a + 4 * u)
 row_has q u a h = (a, omega (arith, row_length q u), λ d. row_at q u a d h)
 
-row_all : (P : ℕ → Type 0) (q u : ℕ) → ((a : ℕ) → a < q → P (a + 4 * u)) → All P (row q u)
+row_all : (P : ℕ → Type 0) (q u : ℕ) → ((a : ℕ) → a < q → P (a + 4 * u)) → AllByRecursion P (row q u)
 row_all P q u h =
     All-from_get_or P (row q u) 0 (λ a in'. let lt : a < q = omega (arith, row_length q u) in subst P (sym (row_at q u a 0 lt)) (h a lt))
 
@@ -242,17 +242,17 @@ joined_has f (w ∷ us) u v h k =
       | inr l ↦ has_append_right (f w) (flat_map f us) v (joined_has f us u v l k)
     ]
 
-joined_all : (P : ℕ → Type 0) (f : ℕ → List ℕ) (us : List ℕ) → All (λ u. All P (f u)) us → All P (flat_map f us)
+joined_all : (P : ℕ → Type 0) (f : ℕ → List ℕ) (us : List ℕ) → AllByRecursion (λ u. AllByRecursion P (f u)) us → AllByRecursion P (flat_map f us)
 joined_all P f [] h = tt
 joined_all P f (u ∷ us) h = All-append P (f u) (flat_map f us) h.0 (joined_all P f us h.1)
 
 -- an induction over all marks
-marks_all : (P : ℕ → ℕ → Type 0) (q : ℕ) → P 0 0 → ((n u a : ℕ) → a < q → P n u → P (suc n) (a + 4 * u)) → (n : ℕ) → All (P n) (all_marks q n)
+marks_all : (P : ℕ → ℕ → Type 0) (q : ℕ) → P 0 0 → ((n u a : ℕ) → a < q → P n u → P (suc n) (a + 4 * u)) → (n : ℕ) → AllByRecursion (P n) (all_marks q n)
 unfolding all_marks
 marks_all P q none more zero = (none, tt)
 marks_all P q none more (suc n) =
     joined_all (P (suc n)) (row q) (all_marks q n)
-    (All-weaker (P n) (λ u. All (P (suc n)) (row q u)) (λ u h. row_all (P (suc n)) q u (λ a lt. more n u a lt h)) (all_marks q n) (marks_all P q none more n))
+    (All-weaker (P n) (λ u. AllByRecursion (P (suc n)) (row q u)) (λ u h. row_all (P (suc n)) q u (λ a lt. more n u a lt h)) (all_marks q n) (marks_all P q none more n))
 
 pub all_marks_has : (q n u : ℕ) → q ≤ 4 → u < 4 ^ n → ((i : ℕ) → digit u i < q) → Has (all_marks q n) u
 unfolding all_marks
@@ -293,9 +293,9 @@ rows_rise : (q : ℕ) → q ≤ 4 → (us : List ℕ) → Pairs ◌<◌ us → P
 rows_rise q low [] h = tt
 rows_rise q low (u ∷ us) h =
     pairs_append ◌<◌ (row q u) (flat_map (row q) us) (row_rises q u) (rows_rise q low us h.1)
-    (row_all (λ v. All (λ w. v < w) (flat_map (row q) us)) q u
+    (row_all (λ v. AllByRecursion (λ w. v < w) (flat_map (row q) us)) q u
     (λ a lt. joined_all (λ w. a + 4 * u < w) (row q) us
-    (All-weaker (λ v. u < v) (λ v. All (λ w. a + 4 * u < w) (row q v)) (λ v above. row_all (λ w. a + 4 * u < w) q v (λ b _. omega arith)) us h.0)))
+    (All-weaker (λ v. u < v) (λ v. AllByRecursion (λ w. a + 4 * u < w) (row q v)) (λ v above. row_all (λ w. a + 4 * u < w) q v (λ b _. omega arith)) us h.0)))
 
 marks_rise : (q n : ℕ) → q ≤ 4 → Pairs ◌<◌ (all_marks q n)
 unfolding all_marks
@@ -305,7 +305,7 @@ marks_rise q (suc n) low = rows_rise q low (all_marks q n) (marks_rise q n low)
 pub all_marks_distinct : (q n : ℕ) → q ≤ 4 → Distinct (all_marks q n)
 all_marks_distinct q n low i j lt in' e = omega (arith, pairs_at ◌<◌ (all_marks q n) (marks_rise q n low) i j lt in')
 
-kept_all : (p : ℕ → Bool) (us : List ℕ) → All (λ u. p u ≡ true) us → filter p us ≡ us
+kept_all : (p : ℕ → Bool) (us : List ℕ) → AllByRecursion (λ u. p u ≡ true) us → filter p us ≡ us
 kept_all p [] h = refl
 kept_all p (u ∷ us) h = cond-true (p u) (u ∷ filter p us) (filter p us) h.0 ∙ ap (λ l. u ∷ l) (kept_all p us h.1)
 
@@ -315,7 +315,7 @@ module _ (f : ℕ → ℕ) where
   Apart u v = Other (f u) (f v)
 
   -- at most one of them has the top value, for where u has it the others are below
-  below_top : (top : ℕ) (us : List ℕ) → Pairs Apart us → All (λ u. f u < suc top) us → length us ≤ suc (length (filter (λ u. ltb (f u) top) us))
+  below_top : (top : ℕ) (us : List ℕ) → Pairs Apart us → AllByRecursion (λ u. f u < suc top) us → length us ≤ suc (length (filter (λ u. ltb (f u) top) us))
   below_top top [] apart low = omega arith
   below_top top (u ∷ us) apart low =
       let p : ℕ → Bool = λ v. ltb (f v) top in
@@ -323,14 +323,14 @@ module _ (f : ℕ → ℕ) where
       cond_both (p u) (u ∷ filter p us) (filter p us) (λ l. suc (length us) ≤ suc (length l)) (λ _. omega arith)
       (λ e. omega (arith, ap length (kept_all p us (others e))))
     where
-      others : ltb (f u) top ≡ false → All (λ v. ltb (f v) top ≡ true) us
+      others : ltb (f u) top ≡ false → AllByRecursion (λ v. ltb (f v) top ≡ true) us
       others e =
           All-from_get_or (λ v. ltb (f v) top ≡ true) us 0
           (λ j in'. let v : ℕ = get_or us j 0 in
           let other : f u ≡ f v → ⊥ = All-get_or (Apart u) us j 0 in' apart.0 in
           lt-ltb (f v) top (omega (arith, ltb-false (f u) top e, All-get_or (λ w. f w < suc top) us j 0 in' low.1)))
 
-  within : (bound : ℕ) (us : List ℕ) → Pairs Apart us → All (λ u. f u < bound) us → length us ≤ bound
+  within : (bound : ℕ) (us : List ℕ) → Pairs Apart us → AllByRecursion (λ u. f u < bound) us → length us ≤ bound
   within zero [] apart low = omega arith
   within zero (u ∷ us) apart low = absurd (omega arith)
   within (suc bound) us apart low =

@@ -1,6 +1,6 @@
 -- Growth: how each leader is reached from an earlier one.
 use Rattle.std.specs.Prelude.{◌≡◌, ℕ, ◌<◌, ◌≤◌, ◌⊎◌, List, slice_index}
-use Rattle.std.specs.List.{ContainsAt as Has, AllByRecursion as All}
+use Rattle.std.specs.List.{ContainsAt as Has, AllByRecursion}
 use Rattle.algebra.specs.Digits.{digit}
 use Rattle.algebra.specs.Marks.{put}
 use Rattle.leaders.specs.Leaders.{leaders, leader_number}
@@ -19,6 +19,6 @@ module _ (T : Scheme) where
 
   -- The marks that wait while the first k leaders are settled: of the first m, every sprout waits or has its coset settled.
   pub record Waiting (k m : ℕ) (items : List ℕ) : Type 0 where
-    pub marks : All (MarkOf T) items
+    pub marks : AllByRecursion (MarkOf T) items
     pub start : k ≡ 0 → Has items 0
     pub sprouts : (j v : ℕ) → j < m → Sprout (slice_index (leaders T) j) v → (leader_number T v ≤ k) ⊎ Has items v

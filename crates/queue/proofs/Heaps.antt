@@ -1,6 +1,6 @@
 -- An item rises or sinks in a heap one exchange at a time, and no item of a heap ranks before its first one.
 use Rattle.std.proofs.Common.{◌≡◌, ℕ, zero, suc, ◌+◌, ◌-◌, ◌*◌, ◌/◌, ◌<◌, ◌≤◌, Bool, true, false, List, [], ◌∷◌, ◌++◌, length, get_or, take, sym, refl, ap, ◌∙◌, ⊎_elim, arith}
-use Rattle.std.specs.List.{AllByRecursion as All}
+use Rattle.std.specs.List.{AllByRecursion}
 use Rattle.std.proofs.ByRecursion.{All-from_get_or}
 use Rattle.std.proofs.lemmas.List.{length_push, length-take-le, get_or_append_left, get_or-take}
 use Rattle.std.proofs.lemmas.Bool.{cases_eq}
@@ -133,5 +133,5 @@ module _ {T : Type 0} (before : T → T → Bool) where
         (λ q. o.through _ _ _ (h.under k d (omega arith) l) (top xs d h fuel (parent k) (omega arith) (omega arith)))
 
     -- no item of a heap ranks before its first one
-    pub foremost : (xs : List T) (item : T) → item ≡ get_or xs 0 item → Heaped before xs → All (λ other. before other item ≡ false) xs
+    pub foremost : (xs : List T) (item : T) → item ≡ get_or xs 0 item → Heaped before xs → AllByRecursion (λ other. before other item ≡ false) xs
     foremost xs item e h = All-from_get_or _ xs item (λ k l. by refl e (top xs item h k k (omega arith) l))

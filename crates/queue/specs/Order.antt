@@ -1,7 +1,7 @@
 -- Rankings, and items in a heap under one.
 use Rattle.std.specs.Prelude.{◌≡◌, ℕ, ◌-◌, ◌/◌, ◌<◌, Bool, true, false, List, ◌∷◌, length, slice_index_or}
 use Rattle.std.specs.List.Sorted.{IsPermutation}
-use Rattle.std.specs.List.{AllByRecursion as All}
+use Rattle.std.specs.List.{AllByRecursion}
 
 -- A strict weak order: items that neither ranks before the other may differ.
 pub record Orders {T : Type 0} (before : T → T → Bool) : Type 0 where
@@ -20,4 +20,4 @@ module _ {T : Type 0} (before : T → T → Bool) where
   pub record Parted (items : List T) (item : T) (rest : List T) : Type 0 where
     pub same : IsPermutation items (item ∷ rest)
     pub order : Heaped items → Heaped rest
-    pub first : Heaped items → All (λ other. before other item ≡ false) items
+    pub first : Heaped items → AllByRecursion (λ other. before other item ≡ false) items

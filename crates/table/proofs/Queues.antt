@@ -2,7 +2,7 @@
 use Rattle.std.proofs.Common.{◌≡◌, ℕ, zero, suc, ◌+◌, ◌-◌, ◌*◌, ◌%◌, ◌^◌, ◌<◌, ◌≤◌, Bool, true, false, cond, ◌⊎◌, List, [], ◌∷◌, length, get_or, take, Ok, Err, Result, sym, refl, ap, ◌∙◌, subst, ap₂, inl, inr, ⊎_elim, mod-eq_of_lt, mul-le-mul_left, mul-one, mul-add, arith, MatchResult}
 use native.Mathlib.Nat.{pow-le-pow_right}
 use Rattle.std.specs.List.Sorted.{IsPermutation}
-use Rattle.std.specs.List.{ContainsAt as Has, AllByRecursion as All}
+use Rattle.std.specs.List.{ContainsAt as Has, AllByRecursion}
 use Rattle.std.proofs.ByRecursion.{all-has, all_shuffled, has_shuffled}
 use Rattle.std.proofs.lemmas.List.Sorted.{IsPermutation-sym}
 use Rattle.std.proofs.lemmas.Bool.{cases_eq, cases_lt}
@@ -116,8 +116,8 @@ module _ (T : Scheme) (proper : Proper T) where
   empty_heaped : (before : ℕ → ℕ → Bool) (queue : Queue ℕ) → queue.held ≡ 0 → Heaped before (items_of queue)
   empty_heaped before queue e = subst (λ m. Heaped before (take m (places_of queue))) (sym e) (record { under = λ k d p l. absurd (omega arith) })
 
-  empty_all : (queue : Queue ℕ) → queue.held ≡ 0 → All (MarkOf T) (items_of queue)
-  empty_all queue e = subst (λ m. All (MarkOf T) (take m (places_of queue))) (sym e) tt
+  empty_all : (queue : Queue ℕ) → queue.held ≡ 0 → AllByRecursion (MarkOf T) (items_of queue)
+  empty_all queue e = subst (λ m. AllByRecursion (MarkOf T) (take m (places_of queue))) (sym e) tt
 
   -- nothing is held, and some leader is settled
   pub pending_later : (k : ℕ) (queue : Queue ℕ) → 0 < k → queue.held ≡ 0 → scratch_size T ≤ length (places_of queue) → Pending T k 0 queue

@@ -1,6 +1,6 @@
 -- The queue of a growing table: the marks that wait.
 use Rattle.std.specs.Prelude.{◌≡◌, ℕ, ◌+◌, ◌-◌, ◌*◌, ◌<◌, ◌≤◌, Bool, List, length, Some, None, Option, slice_index_or}
-use Rattle.std.specs.List.{ContainsAt as Has, AllByRecursion as All}
+use Rattle.std.specs.List.{ContainsAt as Has, AllByRecursion}
 use Rattle.algebra.specs.Digits.{digit}
 use Rattle.algebra.specs.Marks.{put}
 use Rattle.leaders.specs.Growth.{Sprout, Waiting}
@@ -17,7 +17,7 @@ module _ (T : Scheme) where
     pub within : Within new
     pub long : length (places_of new) ≡ length (places_of old)
     pub held : new.held ≤ old.held + count
-    pub marks : All (MarkOf T) (items_of old) → All (MarkOf T) (items_of new)
+    pub marks : AllByRecursion (MarkOf T) (items_of old) → AllByRecursion (MarkOf T) (items_of new)
     pub keeps : (v : ℕ) → Has (items_of old) v → Has (items_of new) v
     pub joins : (v : ℕ) → added v → Has (items_of new) v
     pub order : Heaped T.ranking.before (items_of old) → Heaped T.ranking.before (items_of new)
