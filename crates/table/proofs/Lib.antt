@@ -1,4 +1,4 @@
 mod Opening
 mod Queues
-mod Settling
+pub mod Settling
 pub mod Finding
