@@ -154,7 +154,7 @@ fn sizes_pass_up_to_the_limits(rt: HostRuntime) -> Result<(), Fail> {
 // A table of zeros with the rule whose bytes are given from its tag on.
 fn with_rule(heap: Global, q: u8, n: u8, r: u8, rule: &[u8]) -> Result<Vec<u8>, AllocError> {
     let mut file = with_zeros(heap, q, n, r, &[])?;
-    file.truncate(file.len() - 4);
+    file.truncate(file.len().saturating_sub(4));
     file.extend_from_slice(rule)?;
     Ok(file)
 }

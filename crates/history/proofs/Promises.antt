@@ -1,6 +1,6 @@
 -- A call that was made as defined keeps every promise.
-use Rattle.std.proofs.Common.{◌≡◌, ℕ, zero, suc, ◌+◌, ◌-◌, ◌<◌, ◌≤◌, min, Bool, true, false, cond, ◌&&◌, eqb, leb, ◌⊎◌, List, length, get_or, Some, Ok, Err, vec_items, vec_len, Option, Result, sym, refl, ap, ◌∙◌, subst, ap₂, inl, inr, arith}
-use Rattle.std.proofs.lemmas.Bool.{cases_lt, cond-true, cond-false, eq-eqb, eqb-true, le-leb, lt-leb, and_from, true≢false}
+use Rattle.std.proofs.Common.{◌≡◌, ℕ, ◌-◌, ◌<◌, ◌≤◌, Bool, true, false, cond, ◌&&◌, eqb, leb, ◌⊎◌, List, get_or, Some, Ok, Err, vec_items, vec_len, Result, sym, refl, ap, ◌∙◌, subst, inl, inr, arith}
+use Rattle.std.proofs.lemmas.Bool.{cases_lt, cond-true, cond-false, eq-eqb, eqb-true, le-leb, lt-leb, and_from}
 use Rattle.std.proofs.lemmas.Bool.Decides.{nat_tests}
 use Rattle.algebra.specs.Marks.{number_of, bytes_of, minus}
 use Rattle.algebra.proofs.Marks.{number_back}
@@ -13,12 +13,11 @@ use Rattle.leaders.proofs.Leaders.{at_mark, at_leader, leader_at, leader_mark, l
 use Rattle.marks.specs.Reading.{reading}
 use Rattle.marks.specs.declared.mark.Mark.{Mark}
 use Rattle.refusals.specs.declared.Refusal.{Refusal}
-use Rattle.refusals.specs.declared.Refusal.TheVariants.{Buffer, NotSettled, OutOfRange}
+use Rattle.refusals.specs.declared.Refusal.TheVariants.{NotSettled, OutOfRange}
 use Rattle.table.proofs.Finding.{read_sound, found_with_buffers}
-use Rattle.table.specs.Answers.{grow_answer, tally_answer, leader_answer, settled_number, found_of, written, correction_of, corrected_of}
+use Rattle.table.specs.Answers.{grow_answer, leader_answer, settled_number, found_of, written, correction_of, corrected_of}
 use Rattle.history.specs.Histories.{answered, answer_by, first_by, second_by, found, Made}
 use Rattle.history.specs.Promises.{LeaderAt, SoundInput, settled_by, Promised}
-use Rattle.history.specs.declared.entry.Answer.{Answer}
 use Rattle.history.specs.declared.entry.Answer.TheVariants.{Grown, Tally as Tallied, Found, Leader as Led}
 use Rattle.history.specs.declared.entry.Call.{Call}
 use Rattle.history.specs.declared.entry.Call.TheVariants.{Grow, Tally, Find, Leader}

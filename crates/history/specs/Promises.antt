@@ -7,7 +7,7 @@ use Rattle.leaders.specs.Schemes.{Scheme, MarkOf}
 use Rattle.marks.specs.Reading.{reading}
 use Rattle.marks.specs.declared.mark.Mark.{Mark}
 use Rattle.refusals.specs.declared.Refusal.TheVariants.{NotSettled, OutOfRange}
-use Rattle.history.specs.Histories.{grown_before, settled_at, Made}
+use Rattle.history.specs.Histories.{grown_before, Made}
 use Rattle.history.specs.declared.entry.Answer.TheVariants.{Tally as Tallied, Found, Leader as Led}
 use Rattle.history.specs.declared.entry.Call.TheVariants.{Find, Leader}
 use Rattle.history.specs.declared.entry.Entry.{Entry}

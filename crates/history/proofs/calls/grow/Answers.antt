@@ -1,4 +1,4 @@
-use Rattle.std.proofs.Common.{◌≡◌, false, is_ok, Err, sym, refl, ap, ◌∙◌, subst, inr}
+use Rattle.std.proofs.Common.{is_ok, Err, sym, refl, ap, ◌∙◌, subst, inr}
 use Rattle.std.proofs.lemmas.List.{with_items_is}
 use Rattle.std.proofs.lemmas.Result.{err_from_is_err_and}
 use Rattle.table.specs.Answers.{grow_answer, accepted}

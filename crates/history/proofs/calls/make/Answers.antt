@@ -1,4 +1,4 @@
-use Rattle.std.proofs.Common.{◌≡◌, vec_len, sym, subst}
+use Rattle.std.proofs.Common.{vec_len, sym, subst}
 use Rattle.table.specs.Tables.{scheme_of, Grown}
 use Rattle.history.specs.Histories.{growth_by}
 use Rattle.history.specs.declared.entry.Call.TheVariants.{Grow, Tally, Find, Leader}

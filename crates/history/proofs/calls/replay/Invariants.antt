@@ -1,5 +1,5 @@
 use Rattle.std.proofs.Common.{◌≡◌, ℕ, ◌<◌, ◌≤◌, length, get_or}
-use Rattle.table.specs.Tables.{scheme_over, scheme_of, Kept}
+use Rattle.table.specs.Tables.{scheme_of, Kept}
 use Rattle.history.specs.Histories.{settled_at, Made}
 use Rattle.history.specs.declared.entry.Entry.{Entry}
 use Rattle.history.proofs.calls.replay.Given as goal
