@@ -28,6 +28,7 @@ pub struct CostMade {
 }
 
 // The index of the first cost above 1,000, or the length where there is none.
+#[tactic(auto, using(crate::proofs::Above::first_above_laws))]
 fn first_dear(costs: &[u16]) -> usize
     ensures { result ≡ first_above 1000 costs.now }
 {

@@ -81,6 +81,7 @@ pub struct ErasedMade<R> {
 }
 
 // The index of the first byte above 1, or the length where there is none.
+#[tactic(auto, using(crate::proofs::Above::first_above_laws))]
 fn first_other(bytes: &[u8]) -> usize
     ensures { result ≡ first_above 1 bytes.now }
 {

@@ -6,7 +6,6 @@ use Rattle.algebra.specs.Marks.{nonzero}
 use Rattle.algebra.proofs.Digits.{digit_past, total_extended}
 use Rattle.algebra.proofs.Rankings.{nonzero_zero, cost_more, cost_same}
 use Rattle.rules.proofs.cost.cost_of_first.Goals as goal
-use Rattle.rules.proofs.cost.cost_of_first.Goals.{then-symbol-ne0, else-symbol-ne0}
 
 pub loop-i-init : goal.loop-i-init
 unfolding total
@@ -14,14 +13,10 @@ loop-i-init c = omega arith
 
 pub loop-i-preserved : goal.loop-i-preserved
 loop-i-preserved c =
-    elim c.if-symbol-ne0.branch [
-      | then-symbol-ne0 t ↦
-          let some = cost_more c.loop-i.i (λ k. get_or c.args.costs.now k 0) c.args.mark.number (omega (arith, t.if-symbol-ne0.true)) in
-          (omega (arith, some, t.sum-is, t.from-sum.ensures, c.loop-i.invariant.0), omega (arith, t.sum-is, t.from-sum.ensures, c.type_inv.costs c.loop-i.i, c.loop-i.invariant.1))
-      | else-symbol-ne0 t ↦
-          let none = cost_same c.loop-i.i (λ k. get_or c.args.costs.now k 0) c.args.mark.number (omega (arith, t.if-symbol-ne0.false)) in
-          (omega (arith, none, t.sum-is, c.loop-i.invariant.0), omega (arith, t.sum-is, c.loop-i.invariant.1))
-    ]
+    let cost : ℕ → ℕ = λ k. get_or c.args.costs.now k 0 in
+    let some = cost_more c.loop-i.i cost c.args.mark.number in
+    let none = cost_same c.loop-i.i cost c.args.mark.number in
+    grind (arith, some, none, c.type_inv.costs c.loop-i.i)
 
 pub returns : goal.returns
 returns c = c.loop-i.invariant.0 ∙ sym (total_extended c.loop-i.i c.args.n _ none (omega arith))
