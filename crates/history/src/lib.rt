@@ -3,3 +3,5 @@
 
 pub mod calls;
 pub mod entry;
+#[cfg(test)]
+mod tests;
