@@ -1,5 +1,5 @@
 -- A scheme of a code that fits is proper, and a table with nothing settled keeps its promise.
-use Rattle.std.proofs.Common.{◌≡◌, ℕ, ◌+◌, ◌-◌, ◌*◌, ◌^◌, ◌<◌, ◌≤◌, Bool, true, false, cond, ◌&&◌, eqb, ltb, leb, List, length, get_or, replicate, sym, refl, ap, ◌∙◌, subst, arith}
+use Rattle.std.proofs.Common.{◌≡◌, ℕ, ◌+◌, ◌-◌, ◌*◌, ◌^◌, ◌<◌, ◌≤◌, Bool, false, ◌&&◌, eqb, ltb, leb, get_or, replicate, sym, ◌∙◌, subst, arith}
 use Rattle.std.proofs.lemmas.Nat.{mul-add-lt}
 use Rattle.std.proofs.lemmas.List.{length-replicate}
 use Rattle.std.proofs.lemmas.Bool.{and_parts, cond_both, cond-false, ltb-true, ne_eqb}
@@ -13,7 +13,6 @@ use Rattle.leaders.specs.Leaders.{check_of, coset_count, leader_number}
 use Rattle.leaders.specs.Schemes.{Scheme, Proper}
 use Rattle.leaders.proofs.Leaders.{number_least, some_coset}
 use Rattle.table.specs.Tables.{Settled}
-use Rattle.table.specs.declared.table.Records.{Records}
 
 module _ (S : Symbols) (code : Code) (R : MarkRanking) (lawful : Lawful S) (ranks : Ranks R) (places : R.n ≡ code.n) (count : S.q ≡ code.q) where
   abbrev scheme : Scheme

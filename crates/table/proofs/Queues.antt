@@ -1,27 +1,25 @@
 -- What putting marks into the queue of a growing table, and taking them out, comes to.
-use Rattle.std.proofs.Common.{◌≡◌, ℕ, zero, suc, ◌+◌, ◌-◌, ◌*◌, ◌%◌, ◌^◌, ◌<◌, ◌≤◌, Bool, true, false, cond, ◌⊎◌, List, [], ◌∷◌, length, get_or, take, Ok, Err, Result, sym, refl, ap, ◌∙◌, subst, ap₂, inl, inr, ⊎_elim, mod-eq_of_lt, mul-le-mul_left, mul-one, mul-add, arith, MatchResult}
+use Rattle.std.proofs.Common.{◌≡◌, ℕ, ◌+◌, ◌*◌, ◌%◌, ◌^◌, ◌<◌, ◌≤◌, Bool, false, ◌⊎◌, List, ◌∷◌, length, get_or, take, Ok, Err, Result, sym, refl, ap, ◌∙◌, subst, ap₂, inl, inr, ⊎_elim, mod-eq_of_lt, mul-le-mul_left, mul-one, mul-add, arith, MatchResult}
 use native.Mathlib.Nat.{pow-le-pow_right}
-use Rattle.std.specs.List.Sorted.{IsPermutation}
 use Rattle.std.specs.List.{ContainsAt as Has, AllByRecursion}
 use Rattle.std.proofs.ByRecursion.{all-has, all_shuffled, has_shuffled}
 use Rattle.std.proofs.lemmas.List.Sorted.{IsPermutation-sym}
-use Rattle.std.proofs.lemmas.Bool.{cases_eq, cases_lt}
-use Rattle.algebra.specs.Digits.{digit}
+use Rattle.std.proofs.lemmas.Bool.{cases_eq}
 use Rattle.algebra.specs.Marks.{put}
 use Rattle.algebra.proofs.Marks.{changed_put}
 use Rattle.leaders.specs.Growth.{Sprout, Waiting}
-use Rattle.leaders.specs.Leaders.{leaders, coset_count, leader_number, check_of}
+use Rattle.leaders.specs.Leaders.{leaders, coset_count, leader_number}
 use Rattle.leaders.specs.Schemes.{Scheme, MarkOf, Proper}
 use Rattle.leaders.proofs.Adding.{zero_mark}
 use Rattle.leaders.proofs.Growth.{next_leader, none_waits, waiting_taken, waiting_more}
 use Rattle.leaders.proofs.Leaders.{few_leaders, number_at, number_most}
 use Rattle.leaders.proofs.Ranked.{has_here, has_there}
 use Rattle.queue.specs.Contents.{places_of, items_of, Within, Accepted, Refused, Empty, Taken}
-use Rattle.queue.specs.Order.{Heaped, Parted}
+use Rattle.queue.specs.Order.{Heaped}
 use Rattle.queue.specs.declared.queue.Queue.{Queue}
 use Rattle.refusals.specs.declared.Refusal.{Refusal}
 use Rattle.table.specs.Answers.{scratch_size}
-use Rattle.table.specs.Queues.{Joined, PutBelow, SproutBelow, sprout_count, Pending, Next, NextIs, NoneNext}
+use Rattle.table.specs.Queues.{Joined, PutBelow, SproutBelow, sprout_count, Pending, NextIs, NoneNext}
 
 -- setting a place of a mark with n places
 pub set_put : (n u i a v : ℕ) → n ≤ 32 → u < 4 ^ n → i < n → a < 4 → v ≡ put 32 u i (a % 4) → v ≡ put n u i a

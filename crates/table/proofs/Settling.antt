@@ -1,5 +1,5 @@
 -- One more leader is settled: its record is written.
-use Rattle.std.proofs.Common.{◌≡◌, ℕ, ◌+◌, ◌<◌, ◌≤◌, min, Bool, true, false, cond, not, ◌&&◌, eqb, leb, ◌⊎◌, length, get_or, set, is_some, Some, None, Ok, Err, Option, Result, sym, refl, ap, ◌∙◌, subst, ap₂, inl, inr, arith}
+use Rattle.std.proofs.Common.{◌≡◌, ℕ, ◌+◌, ◌<◌, ◌≤◌, min, Bool, true, false, cond, not, eqb, leb, ◌⊎◌, get_or, set, is_some, Some, None, Ok, Option, sym, ap, ◌∙◌, subst, ap₂, inl, inr, arith}
 use Rattle.std.proofs.lemmas.List.{get_or-set_same, get_or-set_other, length-set}
 use Rattle.std.proofs.lemmas.Bool.{cases_eq, eq-eqb, ne_eqb, true≢false}
 use Rattle.std.proofs.lemmas.Bool.Decides.{nat_tests}
@@ -7,8 +7,6 @@ use Rattle.algebra.specs.Rankings.{MarkRanking}
 use Rattle.algebra.specs.Symbols.{Symbols}
 use Rattle.checkfile.specs.Contents.{checks_of}
 use Rattle.queue.specs.declared.queue.Queue.{Queue}
-use Rattle.refusals.specs.declared.Refusal.{Refusal}
-use Rattle.refusals.specs.declared.Refusal.TheVariants.{Amount, Scratch}
 use Rattle.leaders.specs.Leaders.{check_of, leaders, coset_count, leader_number}
 use Rattle.leaders.specs.Schemes.{Scheme, MarkOf, Proper}
 use Rattle.leaders.proofs.Adding.{check_below}

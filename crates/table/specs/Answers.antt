@@ -1,5 +1,5 @@
 -- What each call answers, from the scheme, how many leaders are settled, and the call alone.
-use Rattle.std.specs.Prelude.{ℕ, ◌+◌, ◌-◌, ◌*◌, ◌^◌, Bool, cond, ◌&&◌, List, length, Some, None, Ok, Err, Option, Result, ◌==◌, nat_le, slice_index}
+use Rattle.std.specs.Prelude.{ℕ, ◌+◌, ◌-◌, ◌*◌, ◌^◌, Bool, cond, ◌&&◌, List, Some, None, Ok, Err, Option, Result, ◌==◌, nat_le, slice_index}
 use Rattle.algebra.specs.Marks.{number_of, bytes_of, minus}
 use Rattle.checkfile.specs.declared.code.Code.{Code}
 use Rattle.leaders.specs.Leaders.{leaders, coset_count, leader_of, leader_number}

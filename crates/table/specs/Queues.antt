@@ -1,5 +1,5 @@
 -- The queue of a growing table: the marks that wait.
-use Rattle.std.specs.Prelude.{◌≡◌, ℕ, ◌+◌, ◌-◌, ◌*◌, ◌<◌, ◌≤◌, Bool, List, length, Some, None, Option, slice_index_or}
+use Rattle.std.specs.Prelude.{◌≡◌, ℕ, ◌+◌, ◌-◌, ◌*◌, ◌<◌, ◌≤◌, length, Some, None, Option, slice_index_or}
 use Rattle.std.specs.List.{ContainsAt as Has, AllByRecursion}
 use Rattle.algebra.specs.Digits.{digit}
 use Rattle.algebra.specs.Marks.{put}

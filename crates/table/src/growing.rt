@@ -160,7 +160,8 @@ impl<A: Alphabet, R: Rule> Table<A, R> {
         let mut queue = Queue::new(scratch);
         self.queue_pending(&mut queue);
         self.settle_next(&mut queue, amount);
-        self.records.finished = self.next_leader(&mut queue).is_none();
+        let all = self.next_leader(&mut queue).is_none();
+        self.records.finished = all;
         Ok(())
     }
 }

@@ -1,4 +1,4 @@
-use Rattle.std.proofs.Common.{◌≡◌, length, ap, ◌∙◌}
+use Rattle.std.proofs.Common.{length, ap, ◌∙◌}
 use Rattle.algebra.specs.Marks.{bytes_of, minus}
 use Rattle.leaders.specs.Leaders.{leader_of}
 use Rattle.table.specs.Answers.{found_of}

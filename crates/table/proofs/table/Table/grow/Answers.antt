@@ -1,4 +1,4 @@
-use Rattle.std.proofs.Common.{◌≡◌, ◌≤◌, length, sym, refl, ap, ◌∙◌, subst, arith, rules}
+use Rattle.std.proofs.Common.{◌≡◌, ◌≤◌, length, sym, ap, ◌∙◌, subst, arith, rules}
 use Rattle.std.proofs.lemmas.Bool.{true≢false}
 use Rattle.table.specs.Answers.{scratch_for, scratch_size}
 use Rattle.table.specs.Queues.{Next}
@@ -35,8 +35,8 @@ returns g c =
     let taken = grow_accepted T c.args.amount (length c.args.scratch.now) (omega (arith, c.if-amount-gt-MOST.false)) room in
     record {
       answer = sym taken.0;
-      grown = grown_table S ranks c.args.amount old mid c.is_none-self.result c.requires.count said.subject said.count said.settled
-          (finished_is T mid.records.settled c.next_leader.new.queue c.next_leader.result c.is_none-self.result c.is_none-self.ensures next)
+      grown = grown_table S ranks c.args.amount old mid c.is_none-all.result c.requires.count said.subject said.count said.settled
+          (finished_is T mid.records.settled c.next_leader.new.queue c.next_leader.result c.is_none-all.result c.is_none-all.ensures next)
           _ taken.1;
       refused = λ e. absurd (true≢false e);
     }

@@ -1,5 +1,5 @@
-use Rattle.std.proofs.Common.{◌≡◌, ℕ, ◌<◌, ◌≤◌, get_or, sym, ap, ◌∙◌, subst, arith}
-use Rattle.leaders.specs.Leaders.{check_of, leader_number}
+use Rattle.std.proofs.Common.{◌≡◌, get_or, sym, ap, ◌∙◌, arith}
+use Rattle.leaders.specs.Leaders.{check_of}
 use Rattle.table.specs.Tables.{scheme_of}
 use Rattle.table.proofs.Queues.{taken_mark, taken_settled, taken_next, taken_none}
 use Rattle.table.proofs.Settling.{check_inside, not_settled, is_settled}

@@ -1,10 +1,7 @@
-use Rattle.std.proofs.Common.{◌≡◌, ℕ, ◌<◌, ◌≤◌, length, get_or, sym, ap, ◌∙◌, subst, arith}
+use Rattle.std.proofs.Common.{◌<◌, sym, subst, arith}
 use Rattle.leaders.specs.Growth.{Sprout}
-use Rattle.leaders.specs.Leaders.{leaders}
 use Rattle.leaders.specs.Schemes.{MarkOf}
 use Rattle.leaders.proofs.Leaders.{at_mark}
-use Rattle.queue.specs.Contents.{places_of}
-use Rattle.table.specs.Answers.{scratch_size}
 use Rattle.table.specs.Queues.{Joined, Pending, sprout_count}
 use Rattle.table.specs.Tables.{scheme_of}
 use Rattle.table.proofs.Queues.{accepted_with_room, pending_first, pending_later, pending_sprouts, room_for_sprouts}

@@ -1,4 +1,4 @@
-use Rattle.std.proofs.Common.{◌≡◌, ◌+◌, ◌-◌, ◌*◌, ◌≤◌, length, subst, mul-le-mul_right, add-mul, one-mul, arith}
+use Rattle.std.proofs.Common.{◌≡◌, ◌+◌, ◌-◌, ◌*◌, ◌≤◌, subst, mul-le-mul_right, add-mul, one-mul, arith}
 use Rattle.algebra.proofs.Digits.{digit_past}
 use Rattle.leaders.specs.Growth.{Sprout}
 use Rattle.table.specs.Queues.{Joined, PutBelow, SproutBelow, sprout_count}

@@ -1,9 +1,8 @@
-use Rattle.std.proofs.Common.{◌≡◌, ◌+◌, ◌-◌, ◌<◌, ◌≤◌, length, sym, subst, arith}
+use Rattle.std.proofs.Common.{◌≡◌, ◌+◌, ◌-◌, ◌<◌, sym, subst, arith}
 use Rattle.algebra.specs.Marks.{put}
 use Rattle.checkfile.proofs.Limits.{limits_of, most_places}
 use Rattle.leaders.proofs.Adding.{put_mark}
 use Rattle.leaders.specs.Schemes.{MarkOf}
-use Rattle.queue.specs.Contents.{places_of, Accepted}
 use Rattle.table.specs.Queues.{Joined, PutBelow}
 use Rattle.table.specs.Tables.{scheme_of}
 use Rattle.table.proofs.Queues.{set_put, accepted_with_room, joined_none, joined_put, put_below_more}

@@ -1,4 +1,4 @@
-use Rattle.std.proofs.Common.{◌≡◌, ◌+◌, ◌<◌, sym, refl, ap, ◌∙◌, subst, arith}
+use Rattle.std.proofs.Common.{◌≡◌, ◌+◌, sym, refl, ap, ◌∙◌, subst, arith}
 use Rattle.leaders.specs.Growth.{Sprout}
 use Rattle.leaders.specs.Leaders.{check_of}
 use Rattle.leaders.proofs.Leaders.{few_leaders}

@@ -1,8 +1,6 @@
-use Rattle.std.proofs.Common.{◌≡◌, ◌+◌, ◌≤◌, min, sym, refl, ap, ◌∙◌, subst, arith}
-use Rattle.leaders.specs.Leaders.{coset_count}
-use Rattle.leaders.specs.Schemes.{Scheme}
-use Rattle.table.specs.Queues.{Pending, Next, NoneNext}
-use Rattle.table.specs.Tables.{scheme_of, SameSubject, Settled}
+use Rattle.std.proofs.Common.{sym, refl, subst, arith}
+use Rattle.table.specs.Queues.{Pending, NoneNext}
+use Rattle.table.specs.Tables.{scheme_of, Settled}
 use Rattle.table.proofs.Settling.{same_scheme, same_then}
 use Rattle.table.proofs.table.Table.settle_next.Goals as goal
 

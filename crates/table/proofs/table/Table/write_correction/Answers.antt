@@ -1,4 +1,4 @@
-use Rattle.std.proofs.Common.{◌≡◌, ◌-◌, min, get_or, ap, ◌∙◌, ap₂, arith}
+use Rattle.std.proofs.Common.{◌≡◌, ◌-◌, min, get_or, ◌∙◌, ap₂, arith}
 use Rattle.algebra.specs.Marks.{bytes_of, minus}
 use Rattle.checkfile.proofs.Limits.{limits_of, most_places}
 use Rattle.leaders.proofs.Leaders.{number_least}
