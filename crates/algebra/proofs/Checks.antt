@@ -1,8 +1,8 @@
 -- Check values are symbols, and a check number of 0 says that each of them is 0.
-use Rattle.std.proofs.Common.{◌≡◌, ℕ, zero, suc, ◌+◌, ◌^◌, ◌<◌, ◌≤◌, sym, refl, ap, ◌∙◌, add-one, arith}
+use Rattle.std.proofs.Common.{◌≡◌, ℕ, zero, suc, ◌+◌, ◌^◌, ◌<◌, ◌≤◌, ap, add-one, arith}
 use native.Mathlib.Nat.{pow-le-pow_left, pow-le-pow_right}
 use Rattle.algebra.specs.Checks.{Checks, sum_of, check_value, check_number}
-use Rattle.algebra.specs.Digits.{pack, digit}
+use Rattle.algebra.specs.Digits.{digit}
 use Rattle.algebra.specs.Symbols.{Symbols, Lawful}
 use Rattle.algebra.proofs.Digits.{pack_zeros, zeros_packed}
 

@@ -1,5 +1,5 @@
 -- The laws of digits: a packed number has the digits it was packed from, and numbers with the same digits are equal.
-use Rattle.std.proofs.Common.{◌≡◌, ℕ, zero, suc, ◌+◌, ◌-◌, ◌*◌, ◌/◌, ◌%◌, ◌^◌, ◌<◌, ◌≤◌, cond, eqb, sym, refl, ap, ◌∙◌, subst, ap₂, suc-le-suc, zero-le, mul_assoc, mul_comm, mul-le-mul_left, mul-zero, mul-one, mul-add, add-one, arith}
+use Rattle.std.proofs.Common.{◌≡◌, ℕ, zero, suc, ◌+◌, ◌*◌, ◌/◌, ◌%◌, ◌^◌, ◌<◌, ◌≤◌, cond, eqb, sym, refl, ap, ◌∙◌, subst, ap₂, suc-le-suc, zero-le, mul_assoc, mul_comm, mul-le-mul_left, mul-zero, mul-one, mul-add, add-one, arith}
 use native.Mathlib.Nat.{pow-zero, pow-succ', pow-le-pow_right, div-div-eq-div-mul}
 use Rattle.std.proofs.lemmas.Nat.{mod-mul-add}
 use Rattle.std.proofs.lemmas.Bool.{cond-false, ne_eqb}

@@ -1,8 +1,8 @@
 -- Mirror and erased over any lawful ranking are lawful rankings, by the laws of the one below and nothing else of it.
-use Rattle.std.proofs.Common.{◌≡◌, ℕ, zero, suc, ◌+◌, ◌-◌, ◌*◌, ◌%◌, ◌^◌, ◌<◌, ◌≤◌, Bool, true, false, cond, ◌&&◌, ◌||◌, eqb, ltb, ◌⊎◌, sym, refl, ap, ◌∙◌, subst, ap₂, inl, inr, mod-eq_of_lt, arith}
-use Rattle.std.proofs.lemmas.Bool.{or_cases, or_left, or_right, or_parts, and_parts, and_from, ltb-true, eqb-true, eqb-false, lt-ltb, eq-eqb, cond-true, cond-false, cond_both, cases_Bool, cases_lt, both_ways}
+use Rattle.std.proofs.Common.{◌≡◌, ℕ, zero, suc, ◌-◌, ◌%◌, ◌^◌, ◌<◌, ◌≤◌, Bool, true, false, cond, ◌&&◌, ◌||◌, eqb, ltb, ◌⊎◌, sym, refl, ap, ◌∙◌, subst, ap₂, inl, inr, mod-eq_of_lt, arith}
+use Rattle.std.proofs.lemmas.Bool.{or_cases, or_left, or_right, or_parts, and_parts, and_from, ltb-true, eqb-true, lt-ltb, eq-eqb, cond-true, cond-false, cond_both, cases_Bool, cases_lt, both_ways}
 use Rattle.std.proofs.lemmas.Bool.Decides.{nat_tests}
-use Rattle.algebra.specs.Digits.{pack, digit, total}
+use Rattle.algebra.specs.Digits.{digit, total}
 use Rattle.algebra.specs.Marks.{Mark, put, nonzero, weight}
 use Rattle.algebra.specs.Rankings.{MarkRanking, Ranks, filled, mirrored, mirror, wiped, erased}
 use Rattle.algebra.specs.Symbols.{Symbols, Lawful}

@@ -1,9 +1,8 @@
 -- What the packed forms of a mark come to: the bytes and back, one symbol set, and the weight by a count of ones.
-use Rattle.std.proofs.Common.{◌≡◌, ℕ, zero, suc, ◌+◌, ◌-◌, ◌*◌, ◌/◌, ◌%◌, ◌^◌, ◌<◌, ◌≤◌, Bool, true, false, cond, eqb, ◌⊎◌, List, [], ◌∷◌, map, length, get_or, sym, refl, ap, ◌∙◌, subst, ap₂, inl, inr, suc-le-suc, zero-le, mul_assoc, mul_comm, add_comm, zero-mul, arith, lit<}
+use Rattle.std.proofs.Common.{◌≡◌, ℕ, zero, suc, ◌+◌, ◌-◌, ◌*◌, ◌/◌, ◌%◌, ◌^◌, ◌<◌, ◌≤◌, Bool, true, false, cond, eqb, List, length, get_or, sym, refl, ap, ◌∙◌, ap₂, mul_assoc, mul_comm, add_comm, zero-mul, arith, lit<}
 use native.Mathlib.Nat.{pow-succ', pow-le-pow_right}
 use lib.Bits.{bit_and, bit_or, and_block, or_block, and_mask, and_zero_r, or_lt, or_mod}
 use lib.Count.{ones, ones_in, ones_cat}
-use Rattle.std.specs.List.{range_with_len}
 use Rattle.std.proofs.lemmas.List.FromFn.{length-map-range_with_len, get_or-map-range_with_len, fill_by_all}
 use Rattle.std.proofs.lemmas.Bool.{cond-false, cond_both, ne_eqb}
 use Rattle.algebra.specs.Digits.{pack, digit, total}

@@ -1,10 +1,10 @@
 -- "Smaller sum over the places, then smaller number" is a lawful ranking, whatever each place counts within `Counts`: plain, weight
 -- and cost are.
-use Rattle.std.proofs.Common.{◌≡◌, ℕ, zero, suc, ◌+◌, ◌-◌, ◌*◌, ◌%◌, ◌^◌, ◌<◌, ◌≤◌, Bool, true, false, cond, ◌&&◌, ◌||◌, eqb, ltb, ◌⊎◌, sym, refl, ap, ◌∙◌, subst, ap₂, inl, inr, zero-le, mul-le-mul_right, mod-eq_of_lt, add-mul, one-mul, mul-zero, zero-mul, mul-one, arith}
+use Rattle.std.proofs.Common.{◌≡◌, ℕ, ◌+◌, ◌*◌, ◌%◌, ◌^◌, ◌<◌, ◌≤◌, Bool, true, false, ◌&&◌, eqb, ltb, ◌⊎◌, sym, ap, ◌∙◌, subst, ap₂, inl, inr, zero-le, mul-le-mul_right, mod-eq_of_lt, add-mul, one-mul, mul-zero, zero-mul, mul-one, arith}
 use native.Mathlib.Nat.{pow-le-pow_right}
-use Rattle.std.proofs.lemmas.Bool.{or_cases, and_parts, ltb-true, eqb-true, lt-ltb, eq-eqb, ne_eqb, cond-true, cond-false, cases_order, cases_lt, or_left, or_right, and_from, true≢false}
+use Rattle.std.proofs.lemmas.Bool.{or_cases, and_parts, ltb-true, eqb-true, lt-ltb, eq-eqb, ne_eqb, cond-true, cond-false, cases_lt, or_left, or_right, and_from, true≢false}
 use Rattle.std.proofs.lemmas.Bool.Decides.{nat_tests}
-use Rattle.algebra.specs.Digits.{pack, digit, total}
+use Rattle.algebra.specs.Digits.{digit, total}
 use Rattle.algebra.specs.Marks.{Mark, put, nonzero, weight}
 use Rattle.algebra.specs.Rankings.{MarkRanking, Ranks, filled, first, measure, by_measure, cost_share, cost_of, by_cost, plain, by_weight}
 use Rattle.algebra.specs.Symbols.{Symbols, Lawful}

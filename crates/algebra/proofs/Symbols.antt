@@ -1,7 +1,7 @@
 -- An alphabet is lawful where one test over all its symbols passes; the three alphabets pass it.
-use Rattle.std.proofs.Common.{◌≡◌, ℕ, zero, suc, ◌+◌, ◌*◌, ◌%◌, ◌<◌, ◌≤◌, Bool, true, false, cond, ◌&&◌, eqb, ltb, leb, ◌⊎◌, sym, refl, ap, ◌∙◌, subst, ap₂, inl, inr, arith, lit≤}
+use Rattle.std.proofs.Common.{◌≡◌, ℕ, zero, suc, ◌+◌, ◌<◌, ◌≤◌, Bool, true, cond, ◌&&◌, eqb, ltb, leb, ◌⊎◌, sym, refl, ap, ◌∙◌, ap₂, inl, inr, arith, lit≤}
 use Rattle.std.proofs.lemmas.Bool.{and_parts, and_from, and_left, and_right, lt-ltb, le-ltb, ltb-true, leb-true, eqb-true, cases_lt, cond-true, cond-false}
-use Rattle.algebra.specs.Symbols.{Symbols, Lawful, alphabet, modulo, bits, thirds, quads}
+use Rattle.algebra.specs.Symbols.{Symbols, Lawful, alphabet, bits, thirds, quads}
 
 -- the test p passes at each number below n
 abbrev pub below : ℕ → (ℕ → Bool) → Bool

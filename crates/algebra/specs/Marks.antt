@@ -1,5 +1,5 @@
 -- Marks: n symbols packed into a number, two bits a place. Places count from 0 here.
-use Rattle.std.specs.Prelude.{ℕ, ◌^◌, ◌<◌, cond, ◌&&◌, List, map, length, ◌==◌, slice_index}
+use Rattle.std.specs.Prelude.{ℕ, ◌^◌, ◌<◌, cond, List, map, length, ◌==◌, slice_index}
 use Rattle.std.specs.List.{range_with_len}
 use Rattle.algebra.specs.Digits.{pack, digit, total}
 use Rattle.algebra.specs.Symbols.{Symbols}

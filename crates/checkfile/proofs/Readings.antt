@@ -9,7 +9,7 @@ use Rattle.checkfile.specs.declared.kind.Kind.TheVariants.{Plain, Weight, Cost}
 use Rattle.checkfile.specs.declared.rule.FileRule.{FileRule}
 use Rattle.checkfile.specs.Contents.{content_of, content_at, blank_content, Read}
 use Rattle.checkfile.specs.Layout.{Content, Sound, layout, costs_under}
-use Rattle.checkfile.specs.Tests.{Said, CostBytes, CostBytesAt, first_refusal, tests, pair, places_at, cost_offset}
+use Rattle.checkfile.specs.Tests.{Said, CostBytes, CostBytesAt, first_refusal, tests, pair, cost_offset}
 use Rattle.checkfile.proofs.Layouts.{accepted, layouts_accepted}
 use Rattle.checkfile.proofs.FirstRefusal.{contents_pair}
 

@@ -1,5 +1,5 @@
 -- A mark that is made by setting one place after the other.
-use Rattle.std.proofs.Common.{◌≡◌, ℕ, ◌+◌, ◌%◌, ◌<◌, ap, ◌∙◌, ap₂, mod-eq_of_lt, arith}
+use Rattle.std.proofs.Common.{◌≡◌, ℕ, ◌+◌, ◌%◌, ◌<◌, ap, ◌∙◌, ap₂, mod-eq_of_lt}
 use Rattle.algebra.specs.Digits.{pack}
 use Rattle.algebra.specs.Marks.{put}
 use Rattle.algebra.proofs.Marks.{put_next}

@@ -1,6 +1,6 @@
 -- A lawful ranking of marks orders all numbers: those that differ past its places rank alike.
-use Rattle.std.specs.Prelude.{◌≡◌, ℕ, ◌%◌, ◌^◌, Bool, true, false, ◌⊎◌}
-use Rattle.std.proofs.Common.{sym, ap, ap₂, ◌∙◌, inl, inr}
+use Rattle.std.specs.Prelude.{◌≡◌, ℕ, ◌%◌, ◌^◌, true, false, ◌⊎◌}
+use Rattle.std.proofs.Common.{sym, ap, ◌∙◌, inl, inr}
 use Rattle.std.proofs.lemmas.Bool.{cases_Bool, both_ways}
 use Rattle.algebra.specs.Rankings.{MarkRanking, Ranks}
 use Rattle.algebra.proofs.Digits.{mod_below}

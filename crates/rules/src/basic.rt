@@ -80,6 +80,7 @@ impl Rule for Plain {
     }
 }
 
+// The lighter mark first, then the smaller number.
 #[derive(Clone, Copy)]
 pub struct Weight {
     n: usize,

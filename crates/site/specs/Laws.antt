@@ -3,7 +3,7 @@ use Rattle.std.proofs.Common.{sym}
 use Rattle.std.specs.Prelude.{ℕ, ◌≤◌, false, refl}
 use Rattle.std.proofs.lemmas.Bool.{true≢false}
 use Rattle.algebra.specs.Rankings.{Ranks, by_measure}
-use Rattle.algebra.proofs.Rankings.{Counts, by_measure_ranks}
+use Rattle.algebra.proofs.Rankings.{by_measure_ranks}
 
 pub symbol_sum_ranks : (n : ℕ) → 1 ≤ n → n ≤ 24 → Ranks (by_measure n false (λ _ symbol. symbol))
 symbol_sum_ranks n least most =

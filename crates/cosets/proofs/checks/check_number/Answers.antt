@@ -1,9 +1,9 @@
-use Rattle.std.proofs.Common.{◌≡◌, ℕ, ◌-◌, ◌<◌, ◌≤◌, List, length, get_or, take, set, sym, ap, ◌∙◌, ap₂, arith, rules}
+use Rattle.std.proofs.Common.{◌≡◌, ℕ, ◌-◌, ◌<◌, ◌≤◌, List, length, get_or, take, set, ap, ◌∙◌, ap₂, arith, rules}
 use Rattle.std.proofs.lemmas.List.Edits.{fill_by_more}
 use Rattle.std.proofs.lemmas.List.{get_or-take, length-set, length-take-le}
 use Rattle.algebra.specs.Checks.{Checks, check_value, check_number}
 use Rattle.algebra.specs.Digits.{pack}
-use Rattle.algebra.specs.Symbols.{Symbols, Lawful}
+use Rattle.algebra.specs.Symbols.{Symbols}
 use Rattle.algebra.proofs.Checks.{value_symbol}
 use Rattle.algebra.proofs.Digits.{pack_same}
 use Rattle.checkfile.specs.Contents.{checks_of}

@@ -1,4 +1,4 @@
-use Rattle.std.proofs.Common.{◌≡◌, ℕ, sym, ap, ◌∙◌, arith}
+use Rattle.std.proofs.Common.{◌≡◌, ℕ, ap, ◌∙◌, arith}
 use Rattle.algebra.specs.Checks.{sum_of}
 use Rattle.algebra.specs.Digits.{digit}
 use Rattle.algebra.proofs.Checks.{sum_of_more}

@@ -1,4 +1,4 @@
-use Rattle.std.proofs.Common.{true, eqb, sym, ap, ◌∙◌}
+use Rattle.std.proofs.Common.{eqb, sym, ap, ◌∙◌}
 use Rattle.std.proofs.lemmas.Bool.{eqb-true, eq-eqb}
 use Rattle.algebra.proofs.Checks.{values_of_word, word_of_values}
 use Rattle.checkfile.specs.Contents.{checks_of}

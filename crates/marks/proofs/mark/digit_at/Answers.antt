@@ -1,4 +1,4 @@
-use Rattle.std.proofs.Common.{◌≡◌, ◌*◌, ◌^◌, ◌<◌, ◌≤◌, ap, ◌∙◌, arith}
+use Rattle.std.proofs.Common.{◌≡◌, ◌*◌, ◌^◌, ◌≤◌, ap, arith}
 use native.Mathlib.Nat.{pow-le-pow_right}
 use Rattle.algebra.proofs.Marks.{two_bits}
 use Rattle.std.proofs.lemmas.Nat.{mul-le}

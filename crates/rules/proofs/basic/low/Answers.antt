@@ -1,4 +1,4 @@
-use Rattle.std.proofs.Common.{◌≡◌, ◌-◌, ◌*◌, ◌%◌, ◌^◌, ◌<◌, sym, ap, ◌∙◌, mod-eq_of_lt, arith}
+use Rattle.std.proofs.Common.{◌-◌, ◌*◌, ◌%◌, sym, ap, ◌∙◌, mod-eq_of_lt, arith}
 use native.Mathlib.Nat.{pow-le-pow_right}
 use lib.Bits.{bit_and, and_mask}
 use Rattle.algebra.proofs.Marks.{two_bits}

@@ -1,8 +1,8 @@
-use Rattle.std.proofs.Common.{◌≡◌, ◌+◌, ◌<◌, ◌≤◌, true, false, ◌&&◌, leb, [], ◌∷◌, get_or, Some, sym, ap, ◌∙◌, arith}
+use Rattle.std.proofs.Common.{◌≡◌, ◌+◌, true, false, ◌&&◌, leb, get_or, Some, sym, ap, ◌∙◌, arith}
 use Rattle.std.proofs.lemmas.Result.{err_from_is_err_and}
 use Rattle.std.proofs.lemmas.Bool.Decides.{nat_tests}
 use Rattle.refusals.specs.declared.Refusal.TheVariants.{SymbolCount}
-use Rattle.checkfile.specs.Tests.{byte, test, field_tests}
+use Rattle.checkfile.specs.Tests.{byte, field_tests}
 use Rattle.checkfile.proofs.FirstRefusal.{first_here, value_fails, value_passes, first_byte}
 use Rattle.checkfile.proofs.fields.Reader.count.Goals as goal
 

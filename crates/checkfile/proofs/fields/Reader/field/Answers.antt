@@ -1,4 +1,4 @@
-use Rattle.std.proofs.Common.{◌≡◌, ℕ, ◌+◌, ◌-◌, ◌*◌, ◌≤◌, List, length, get_or, take, drop, sym, refl, ap, ◌∙◌, add-zero, arith, ltb-false, ltb-true}
+use Rattle.std.proofs.Common.{◌≡◌, ℕ, ◌+◌, ◌-◌, ◌*◌, List, length, get_or, take, drop, sym, refl, ap, ◌∙◌, add-zero, arith, ltb-false, ltb-true}
 use Rattle.std.proofs.lemmas.List.{take_rest, drop-drop, length-drop, length-take-le}
 use Rattle.checkfile.specs.Tests.{byte, pair}
 use Rattle.checkfile.proofs.FirstRefusal.{head_fails, tag_fails, length_fails, contents_fail, field_passes}

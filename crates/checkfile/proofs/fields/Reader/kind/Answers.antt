@@ -1,8 +1,8 @@
-use Rattle.std.proofs.Common.{◌≡◌, ◌+◌, true, false, Some, sym, ap, ◌∙◌, arith}
+use Rattle.std.proofs.Common.{◌+◌, Some, sym, ap, ◌∙◌, arith}
 use Rattle.std.proofs.lemmas.Result.{err_from_is_err_and}
 use Rattle.refusals.specs.declared.Refusal.TheVariants.{RuleByte}
 use Rattle.checkfile.specs.Layout.{is_kind, kind_of}
-use Rattle.checkfile.specs.Tests.{byte, field_tests}
+use Rattle.checkfile.specs.Tests.{field_tests}
 use Rattle.checkfile.proofs.FirstRefusal.{first_here, value_fails, value_passes, first_byte}
 use Rattle.checkfile.proofs.fields.Reader.kind.Goals as goal
 

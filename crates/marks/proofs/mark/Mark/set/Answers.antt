@@ -1,5 +1,5 @@
 use Rattle.std.proofs.Common.{◌≡◌, ◌*◌, ◌%◌, ◌^◌, sym, ap, ◌∙◌, arith}
-use lib.Bits.{bit_and, and_mask}
+use lib.Bits.{and_mask}
 use Rattle.algebra.proofs.Marks.{digit_fits, changed_put, changed_fits, put_past}
 use Rattle.marks.proofs.mark.Mark.set.Goals as goal
 use Rattle.marks.proofs.mark.Mark.set.Goals.{After-digit_at-2}
