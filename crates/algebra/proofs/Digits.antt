@@ -1,9 +1,11 @@
 -- The laws of digits: a packed number has the digits it was packed from, and numbers with the same digits are equal.
-use Rattle.std.proofs.Common.{◌≡◌, ℕ, zero, suc, ◌+◌, ◌*◌, ◌/◌, ◌%◌, ◌^◌, ◌<◌, ◌≤◌, cond, eqb, sym, refl, ap, ◌∙◌, subst, ap₂, suc-le-suc, zero-le, mul_assoc, mul_comm, mul-le-mul_left, mul-zero, mul-one, mul-add, add-one, arith}
+use Rattle.std.proofs.Common.{◌≡◌, ℕ, zero, suc, ◌+◌, ◌*◌, ◌/◌, ◌%◌, ◌^◌, ◌<◌, ◌≤◌, cond, eqb, sym, refl, ap, ◌∙◌, ap₂, suc-le-suc, zero-le, mul_assoc, mul_comm, mul-le-mul_left, mul-zero, mul-one, mul-add, add-one, arith}
 use native.Mathlib.Nat.{pow-zero, pow-succ', pow-le-pow_right, div-div-eq-div-mul}
 use Rattle.std.proofs.lemmas.Nat.{mod-mul-add}
 use Rattle.std.proofs.lemmas.Bool.{cond-false, ne_eqb}
 use Rattle.std.proofs.lemmas.Bool.Decides.{nat_tests}
+use Rattle.std.proofs.lemmas.Grind.{common_steps}
+use Rattle.std.proofs.Math.Nat.{eq_of_mul-eq-mul_left}
 use Rattle.algebra.specs.Digits.{pack, digit, total}
 
 pub eqb_suc : (j i : ℕ) → eqb (suc j) (suc i) ≡ eqb j i
@@ -12,11 +14,18 @@ eqb_suc j i = grind (arith, nat_tests)
 pub digit_first : (u : ℕ) → digit u 0 ≡ u % 4
 digit_first u = omega arith
 
+over_next : (u i : ℕ) → u / 4 ^ suc i ≡ u / 4 / 4 ^ i
+over_next u i = ap (λ b. u / b) (pow-succ' 4 i) ∙ sym (div-div-eq-div-mul u 4 (4 ^ i))
+
 pub digit_rest : (u i : ℕ) → digit u (suc i) ≡ digit (u / 4) i
-digit_rest u i = ap (λ d. d % 4) (ap (λ b. u / b) (pow-succ' 4 i) ∙ sym (div-div-eq-div-mul u 4 (4 ^ i)))
+digit_rest u i = ap (λ d. d % 4) (over_next u i)
 
 pub digit_symbol : (u i : ℕ) → digit u i < 4
 digit_symbol u i = omega arith
+
+-- one place up, a digit counts b times as much
+pub place_up : (b d n : ℕ) → d * b ^ suc n ≡ b * (d * b ^ n)
+place_up b d n = ap (λ x. d * x) (pow-succ' b n) ∙ sym (mul_assoc d b (b ^ n)) ∙ ap (λ x. x * b ^ n) (mul_comm d b) ∙ mul_assoc b d (b ^ n)
 
 -- a digit of 4 * w + d, with d the first
 pub digit_joined_first : (d w : ℕ) → d < 4 → digit (d + 4 * w) 0 ≡ d
@@ -24,8 +33,7 @@ digit_joined_first d w h = digit_first (d + 4 * w) ∙ omega arith
 
 pub digit_joined_rest : (d w i : ℕ) → d < 4 → digit (d + 4 * w) (suc i) ≡ digit w i
 digit_joined_rest d w i h =
-    let e : (d + 4 * w) / 4 ≡ w = omega arith in
-    digit_rest (d + 4 * w) i ∙ ap (λ v. digit v i) e
+    grind (arith, digit_rest)
 
 pub digit_past : (n u i : ℕ) → u < 4 ^ n → n ≤ i → digit u i ≡ 0
 digit_past zero u zero h k = omega arith
@@ -34,6 +42,9 @@ digit_past zero u (suc i) h k =
 digit_past (suc n) u zero h k = absurd (omega arith)
 digit_past (suc n) u (suc i) h k =
     digit_rest u i ∙ digit_past n (u / 4) i (omega (arith, pow-succ' 4 n)) (omega arith)
+
+pub zero_digit : (i : ℕ) → digit 0 i ≡ 0
+zero_digit i = digit_past 0 0 i (omega arith) zero-le
 
 pub same_digits : (n u v : ℕ) → u < 4 ^ n → v < 4 ^ n → ((i : ℕ) → i < n → digit u i ≡ digit v i) → u ≡ v
 same_digits zero u v hu hv e = omega arith
@@ -78,12 +89,8 @@ pack_top : (b n : ℕ) (f : ℕ → ℕ) → pack b (suc n) f ≡ pack b n f + f
 unfolding pack
 pack_top b zero f = omega (arith, mul-zero b, ap (λ x. f 0 * x) (pow-zero b), mul-one (f 0))
 pack_top b (suc n) f =
-    let p : ℕ = pack b n (λ i. f (suc i)) in
-    let rest : pack b (suc n) (λ i. f (suc i)) ≡ p + f (suc n) * b ^ n = pack_top b n (λ i. f (suc i)) in
-    let spread : b * (p + f (suc n) * b ^ n) ≡ b * p + b * (f (suc n) * b ^ n) = mul-add b p (f (suc n) * b ^ n) in
-    let top : b * (f (suc n) * b ^ n) ≡ f (suc n) * b ^ suc n =
-    sym (mul_assoc b (f (suc n)) (b ^ n)) ∙ ap (λ x. x * b ^ n) (mul_comm b (f (suc n))) ∙ mul_assoc (f (suc n)) b (b ^ n) ∙ ap (λ x. f (suc n) * x) (sym (pow-succ' b n))
-    in ap (λ x. f 0 + b * x) rest ∙ omega arith
+    ap (λ x. f 0 + b * x) (pack_top b n (λ i. f (suc i)))
+    ∙ omega (arith, mul-add b (pack b n (λ i. f (suc i))) (f (suc n) * b ^ n), place_up b (f (suc n)) n)
 
 pub pack_none : (b : ℕ) (f : ℕ → ℕ) → pack b 0 f ≡ 0
 unfolding pack
@@ -95,11 +102,8 @@ unfolding pack
 low_digits zero u = omega arith
 low_digits (suc n) u =
     let w : ℕ = u / 4 in
-    let top : u / 4 ^ suc n ≡ w / 4 ^ n = ap (λ b. u / b) (pow-succ' 4 n) ∙ sym (div-div-eq-div-mul u 4 (4 ^ n)) in
     let rest : pack 4 n (λ i. digit u (suc i)) ≡ pack 4 n (digit w) = pack_same 4 n (λ i. digit u (suc i)) (digit w) (λ i _. digit_rest u i) in
-    let high : u / 4 ^ suc n * 4 ^ suc n ≡ 4 * (w / 4 ^ n * 4 ^ n) =
-    ap₂ (λ x y. x * y) top (pow-succ' 4 n) ∙ sym (mul_assoc (w / 4 ^ n) 4 (4 ^ n)) ∙ ap (λ x. x * 4 ^ n) (mul_comm (w / 4 ^ n) 4) ∙ mul_assoc 4 (w / 4 ^ n) (4 ^ n)
-    in
+    let high : u / 4 ^ suc n * 4 ^ suc n ≡ 4 * (w / 4 ^ n * 4 ^ n) = ap (λ x. x * 4 ^ suc n) (over_next u n) ∙ place_up 4 (w / 4 ^ n) n in
     omega (arith, low_digits n w, digit_first u)
 
 pub mod_digits : (n u : ℕ) → u % 4 ^ n ≡ pack 4 n (digit u)
@@ -108,7 +112,7 @@ mod_digits n u =
     ∙ mod-mul-add (u / 4 ^ n) (4 ^ n) (pack 4 n (digit u)) (pack_below 4 n (digit u) (λ i _. digit_symbol u i))
 
 pub mod_below : (n u : ℕ) → u % 4 ^ n < 4 ^ n
-mod_below n u = subst (λ x. x < 4 ^ n) (sym (mod_digits n u)) (pack_below 4 n (digit u) (λ i _. digit_symbol u i))
+mod_below n u = omega (arith, pow-le-pow_right {n = 4} (omega arith) {i = 0} {j = n} zero-le)
 
 pub mod_digit : (n u i : ℕ) → i < n → digit (u % 4 ^ n) i ≡ digit u i
 mod_digit n u i h = ap (λ x. digit x i) (mod_digits n u) ∙ pack_digit n (digit u) (λ j _. digit_symbol u j) i h
@@ -135,11 +139,7 @@ unfolding pack
 zeros_packed b zero f p e i h = absurd (omega arith)
 zeros_packed b (suc n) f p e zero h = omega arith
 zeros_packed b (suc n) f p e (suc i) h =
-    zeros_packed b n (λ j. f (suc j)) p (rest (pack b n (λ j. f (suc j))) (omega arith)) i (omega arith)
-  where
-    rest : (w : ℕ) → b * w ≡ 0 → w ≡ 0
-    rest zero k = refl
-    rest (suc w) k = absurd (let m : b * 1 ≤ b * suc w = mul-le-mul_left b (suc-le-suc zero-le) in omega arith)
+    zeros_packed b n (λ j. f (suc j)) p (eq_of_mul-eq-mul_left b p _ 0 (omega (arith, mul-zero b))) i (omega arith)
 
 pub total_top : (n : ℕ) (f : ℕ → ℕ) → total (suc n) f ≡ total n f + f n
 unfolding total
@@ -155,15 +155,20 @@ total_same zero f g e = refl
 total_same (suc n) f g e =
     ap₂ (λ x y. x + y) (e 0 (omega arith)) (total_same n (λ i. f (suc i)) (λ i. g (suc i)) (λ i h. e (suc i) (omega arith)))
 
+-- each term is at most the total
+pub total_term : (n : ℕ) (f : ℕ → ℕ) (i : ℕ) → i < n → f i ≤ total n f
+unfolding total
+total_term zero f i h = absurd (omega arith)
+total_term (suc n) f zero h = omega arith
+total_term (suc n) f (suc i) h = omega (arith, total_term n (λ j. f (suc j)) i (omega arith))
+
 -- a total after one term is changed
 pub total_changed : (n i : ℕ) (g : ℕ → ℕ → ℕ) (d : ℕ → ℕ) (b : ℕ) → i < n
     → total n (λ j. g j (cond (eqb j i) b (d j))) + g i (d i) ≡ total n (λ j. g j (d j)) + g i b
 unfolding total
 total_changed zero i g d b h = absurd (omega arith)
 total_changed (suc n) zero g d b h =
-    let rest : total n (λ j. g (suc j) (cond (eqb (suc j) 0) b (d (suc j)))) ≡ total n (λ j. g (suc j) (d (suc j))) =
-    total_same n _ _ (λ j _. ap (g (suc j)) (cond-false (eqb (suc j) 0) b (d (suc j)) (ne_eqb (suc j) 0 (omega arith))))
-    in omega arith
+    grind (arith, common_steps)
 total_changed (suc n) (suc i) g d b h =
     let here : g 0 (cond (eqb 0 (suc i)) b (d 0)) ≡ g 0 (d 0) = ap (g 0) (cond-false (eqb 0 (suc i)) b (d 0) (ne_eqb 0 (suc i) (omega arith))) in
     let rest : total n (λ j. g (suc j) (cond (eqb (suc j) (suc i)) b (d (suc j)))) ≡ total n (λ j. g (suc j) (cond (eqb j i) b (d (suc j)))) =

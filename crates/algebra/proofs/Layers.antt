@@ -1,22 +1,14 @@
 -- Mirror and erased over any lawful ranking are lawful rankings, by the laws of the one below and nothing else of it.
-use Rattle.std.proofs.Common.{◌≡◌, ℕ, zero, suc, ◌-◌, ◌%◌, ◌^◌, ◌<◌, ◌≤◌, Bool, true, false, cond, ◌&&◌, ◌||◌, eqb, ltb, ◌⊎◌, sym, refl, ap, ◌∙◌, subst, ap₂, inl, inr, mod-eq_of_lt, arith}
-use Rattle.std.proofs.lemmas.Bool.{or_cases, or_left, or_right, or_parts, and_parts, and_from, ltb-true, eqb-true, lt-ltb, eq-eqb, cond-true, cond-false, cond_both, cases_Bool, cases_lt, both_ways}
+use Rattle.std.proofs.Common.{◌≡◌, ℕ, zero, suc, ◌-◌, ◌%◌, ◌^◌, ◌<◌, true, false, cond, ◌&&◌, ◌||◌, eqb, ltb, ◌⊎◌, sym, refl, ap, ◌∙◌, subst, ap₂, inl, inr, mod-eq_of_lt, arith}
+use Rattle.std.proofs.lemmas.Bool.{or_parts, and_parts, eqb-true, cond-true, cases_Bool, both_ways, false_from_ne_true}
 use Rattle.std.proofs.lemmas.Bool.Decides.{nat_tests}
 use Rattle.algebra.specs.Digits.{digit, total}
 use Rattle.algebra.specs.Marks.{Mark, put, nonzero, weight}
 use Rattle.algebra.specs.Rankings.{MarkRanking, Ranks, filled, mirrored, mirror, wiped, erased}
 use Rattle.algebra.specs.Symbols.{Symbols, Lawful}
-use Rattle.algebra.proofs.Digits.{digit_symbol, digit_past, same_digits, pack_below, pack_digit, pack_same, mod_below, mod_digit, total_top, total_same}
-use Rattle.algebra.proofs.Marks.{put_below, put_digit}
+use Rattle.algebra.proofs.Digits.{digit_symbol, same_digits, pack_below, pack_digit, pack_same, mod_below, mod_digit, total_top, total_same, total_term}
+use Rattle.algebra.proofs.Marks.{mark_by_digits, put_below, put_digit}
 use Rattle.algebra.proofs.Rankings.{filled_below, filled_number, filled_blank_number, put_more}
-
--- a mark by its digits: those past the last place are 0 anyway
-mark_by_digits : (S : Symbols) → Lawful S → (n u : ℕ) → u < 4 ^ n → ((i : ℕ) → i < n → digit u i < S.q) → Mark S n u
-mark_by_digits S lawful n u short each = record { short = short; symbols = λ i. at i (cases_lt i n) }
-  where
-    at : (i : ℕ) → (i < n) ⊎ (n ≤ i) → digit u i < S.q
-    at i (inl h) = each i h
-    at i (inr h) = omega (arith, digit_past n u i short h, lawful.least)
 
 -- a sum in reverse
 total_reversed : (n : ℕ) (f : ℕ → ℕ) → total n (λ i. f (n - 1 - i)) ≡ total n f
@@ -58,9 +50,7 @@ module _ (n : ℕ) where
       same_place j l = grind (arith, nat_tests)
 
   turned_filled : (S : Symbols) → Lawful S → (u i a : ℕ) → i < n → mirrored n (filled S n u i a) ≡ filled S n (mirrored n u) (n - 1 - i) a
-  turned_filled S lawful u i a h =
-      turned_put u i (S.sum (digit u i) a) h (omega (arith, lawful.sum_symbol (digit u i) a, lawful.most))
-      ∙ ap (λ d. put n (mirrored n u) (n - 1 - i) (S.sum d a)) (sym (turned_digit u (n - 1 - i) (omega arith) ∙ ap (digit u) (omega arith)))
+  turned_filled S lawful u i a h = grind (arith, turned_put, turned_digit)
 
   turned_weight : (u : ℕ) → weight n (mirrored n u) ≡ weight n u
   turned_weight u = total_same n _ _ (λ i h. ap nonzero (turned_digit u i h)) ∙ total_reversed n (λ i. nonzero (digit u i))
@@ -88,19 +78,13 @@ mirror_ranks R ranks = record {
     back : (u i : ℕ) → i < R.n → digit (mirrored R.n u) (R.n - 1 - i) ≡ digit u i
     back u i h = turned_digit R.n u (R.n - 1 - i) (omega arith) ∙ ap (digit u) (omega arith)
 
-zeros_totalled : (n : ℕ) (f : ℕ → ℕ) → total n f ≡ 0 → (i : ℕ) → i < n → f i ≡ 0
-unfolding total
-zeros_totalled zero f e i h = absurd (omega arith)
-zeros_totalled (suc n) f e zero h = omega arith
-zeros_totalled (suc n) f e (suc i) h = zeros_totalled n (λ j. f (suc j)) (omega arith) i (omega arith)
-
 -- a mark with its erased places blanked
 module _ (n : ℕ) (gone : ℕ → ℕ) where
   abbrev left : ℕ → ℕ → ℕ
   left u i = cond (eqb (gone i) 0) (digit u i) 0
 
   left_symbol : (u i : ℕ) → left u i < 4
-  left_symbol u i = cond_both (eqb (gone i) 0) (digit u i) 0 (λ x. x < 4) (λ _. digit_symbol u i) (λ _. omega arith)
+  left_symbol u i = grind (arith, nat_tests, digit_symbol)
 
   wiped_below : (u : ℕ) → wiped n gone u < 4 ^ n
   wiped_below u = pack_below 4 n (left u) (λ i _. left_symbol u i)
@@ -112,10 +96,8 @@ module _ (n : ℕ) (gone : ℕ → ℕ) where
   wiped_mod u = pack_same 4 n _ _ (λ i h. ap (λ d. cond (eqb (gone i) 0) d 0) (mod_digit n u i h))
 
   wiped_mark : (S : Symbols) → Lawful S → (u : ℕ) → Mark S n u → Mark S n (wiped n gone u)
-  wiped_mark S lawful u m = mark_by_digits S lawful n (wiped n gone u) (wiped_below u) (λ i h. omega (arith, wiped_digit u i h, each i))
-    where
-      each : (i : ℕ) → left u i < S.q
-      each i = cond_both (eqb (gone i) 0) (digit u i) 0 (λ x. x < S.q) (λ _. m.symbols i) (λ _. omega (arith, lawful.least))
+  wiped_mark S lawful u m =
+      mark_by_digits S lawful n (wiped n gone u) (wiped_below u) (λ i h. grind (arith, nat_tests, wiped_digit u i h, m.symbols i, lawful.least))
 
   -- a place that is kept
   module _ (i : ℕ) (inside : i < n) (kept : eqb (gone i) 0 ≡ true) where
@@ -127,19 +109,15 @@ module _ (n : ℕ) (gone : ℕ → ℕ) where
         same_digits n _ _ (wiped_below (put n u i b)) (put_below n (wiped n gone u) i b k)
         (λ j l.
         wiped_digit (put n u i b) j l ∙ ap (λ d. cond (eqb (gone j) 0) d 0) (put_digit n u i b k j l)
-        ∙ same j (cases_Bool (eqb j i))
+        ∙ same j
         ∙ ap (λ d. cond (eqb j i) b d) (sym (wiped_digit u j l))
         ∙ sym (put_digit n (wiped n gone u) i b k j l))
       where
-        same : (j : ℕ) → (eqb j i ≡ true) ⊎ (eqb j i ≡ false) → cond (eqb (gone j) 0) (cond (eqb j i) b (digit u j)) 0 ≡ cond (eqb j i) b (left u j)
-        same j (inl e) =
-            cond-true (eqb (gone j) 0) _ 0 (ap (λ k. eqb (gone k) 0) (eqb-true j i e) ∙ kept) ∙ cond-true (eqb j i) b (digit u j) e ∙ sym (cond-true (eqb j i) b (left u j) e)
-        same j (inr e) = ap (λ x. cond (eqb (gone j) 0) x 0) (cond-false (eqb j i) b (digit u j) e) ∙ sym (cond-false (eqb j i) b (left u j) e)
+        same : (j : ℕ) → cond (eqb (gone j) 0) (cond (eqb j i) b (digit u j)) 0 ≡ cond (eqb j i) b (left u j)
+        same j = grind (arith, nat_tests)
 
     kept_filled : (S : Symbols) → Lawful S → (u a : ℕ) → wiped n gone (filled S n u i a) ≡ filled S n (wiped n gone u) i a
-    kept_filled S lawful u a =
-        kept_put u (S.sum (digit u i) a) (omega (arith, lawful.sum_symbol (digit u i) a, lawful.most))
-        ∙ ap (λ d. put n (wiped n gone u) i (S.sum d a)) (sym (kept_digit u))
+    kept_filled S lawful u a = grind (arith, kept_put, kept_digit)
 
   -- a place that is erased
   gone_put : (i : ℕ) → eqb (gone i) 0 ≡ false → (u b : ℕ) → b < 4 → wiped n gone (put n u i b) ≡ wiped n gone u
@@ -147,23 +125,16 @@ module _ (n : ℕ) (gone : ℕ → ℕ) where
       same_digits n _ _ (wiped_below (put n u i b)) (wiped_below u)
       (λ j l.
       wiped_digit (put n u i b) j l ∙ ap (λ d. cond (eqb (gone j) 0) d 0) (put_digit n u i b k j l)
-      ∙ same j (cases_Bool (eqb j i)) ∙ sym (wiped_digit u j l))
+      ∙ same j ∙ sym (wiped_digit u j l))
     where
-      same : (j : ℕ) → (eqb j i ≡ true) ⊎ (eqb j i ≡ false) → cond (eqb (gone j) 0) (cond (eqb j i) b (digit u j)) 0 ≡ left u j
-      same j (inl e) =
-          let here = ap (λ k. eqb (gone k) 0) (eqb-true j i e) ∙ lost in
-          cond-false (eqb (gone j) 0) _ 0 here ∙ sym (cond-false (eqb (gone j) 0) (digit u j) 0 here)
-      same j (inr e) = ap (λ x. cond (eqb (gone j) 0) x 0) (cond-false (eqb j i) b (digit u j) e)
+      same : (j : ℕ) → cond (eqb (gone j) 0) (cond (eqb j i) b (digit u j)) 0 ≡ left u j
+      same j = grind (arith, nat_tests)
 
   -- where nothing is erased
   whole : total n gone ≡ 0 → (u : ℕ) → u < 4 ^ n → wiped n gone u ≡ u
   whole none u h =
       same_digits n _ u (wiped_below u) h
-      (λ i k. wiped_digit u i k ∙ cond-true (eqb (gone i) 0) (digit u i) 0 (eq-eqb (gone i) 0 (zeros_totalled n gone none i k)))
-
-not_true : (b : Bool) → (b ≡ true → ⊥) → b ≡ false
-not_true true h = absurd (h refl)
-not_true false h = refl
+      (λ i k. grind (arith, nat_tests, wiped_digit u i k, total_term n gone i k))
 
 module _ (gone : ℕ → ℕ) (R : MarkRanking) (ranks : Ranks R) where
   abbrev w : ℕ → ℕ
@@ -180,16 +151,10 @@ module _ (gone : ℕ → ℕ) (R : MarkRanking) (ranks : Ranks R) where
   Why u v = (R.before (w u) (w v) ≡ true) ⊎ ((w u ≡ w v) × (u % 4 ^ R.n < v % 4 ^ R.n))
 
   why : (u v : ℕ) → E.before u v ≡ true → Why u v
-  why u v h = go (or_cases (R.before (w u) (w v)) (eqb (w u) (w v) && ltb (u % 4 ^ R.n) (v % 4 ^ R.n)) h)
-    where
-      go : (R.before (w u) (w v) ≡ true) ⊎ ((eqb (w u) (w v) && ltb (u % 4 ^ R.n) (v % 4 ^ R.n)) ≡ true) → Why u v
-      go (inl e) = inl e
-      go (inr e) = let p = and_parts (eqb (w u) (w v)) (ltb (u % 4 ^ R.n) (v % 4 ^ R.n)) e in inr (eqb-true _ _ p.0, ltb-true _ _ p.1)
+  why u v h = grind (arith, nat_tests)
 
   so : (u v : ℕ) → Why u v → E.before u v ≡ true
-  so u v (inl h) = or_left (R.before (w u) (w v)) _ h
-  so u v (inr h) =
-      or_right (R.before (w u) (w v)) _ (and_from (eqb (w u) (w v)) (ltb (u % 4 ^ R.n) (v % 4 ^ R.n)) (eq-eqb _ _ h.0) (lt-ltb _ _ h.1))
+  so u v h = grind (arith, nat_tests)
 
   one_way : (u v : ℕ) → Why u v → Why v u → ⊥
   one_way u v (inl h) (inl k) = both_ways (R.before (w v) (w u)) (ranks.never_both _ _ h) k
@@ -205,14 +170,8 @@ module _ (gone : ℕ → ℕ) (R : MarkRanking) (ranks : Ranks R) where
 
   some_way : (u v : ℕ) → u < 4 ^ R.n → v < 4 ^ R.n → E.before u v ≡ false → E.before v u ≡ false → u ≡ v
   some_way u v h k l m =
-      let p = or_parts (R.before (w u) (w v)) _ l in
-      let q = or_parts (R.before (w v) (w u)) _ m in
-      let same : w u ≡ w v = ranks.some_way _ _ (wiped_below R.n gone u) (wiped_below R.n gone v) p.0 q.0 in
-      let number : u % 4 ^ R.n ≡ v % 4 ^ R.n = level (w u) (w v) (u % 4 ^ R.n) (v % 4 ^ R.n) same p.1 q.1 in
-      sym (mod-eq_of_lt h) ∙ number ∙ mod-eq_of_lt k
-    where
-      level : (a b x y : ℕ) → a ≡ b → (eqb a b && ltb x y) ≡ false → (eqb b a && ltb y x) ≡ false → x ≡ y
-      level a b x y e f g = grind (arith, nat_tests)
+      let same : w u ≡ w v = ranks.some_way _ _ (wiped_below R.n gone u) (wiped_below R.n gone v) (or_parts _ _ l).0 (or_parts _ _ m).0 in
+      grind (arith, nat_tests, mod-eq_of_lt h, mod-eq_of_lt k)
 
   smaller : (u v : ℕ) → u < 4 ^ R.n → v < 4 ^ R.n → w u ≡ w v → u < v → E.before u v ≡ true
   smaller u v h k e l = so u v (inr (e, omega (arith, mod-eq_of_lt h, mod-eq_of_lt k)))
@@ -221,9 +180,7 @@ module _ (gone : ℕ → ℕ) (R : MarkRanking) (ranks : Ranks R) where
   zero_first u i a h k e p l = go (cases_Bool (eqb (gone i) 0))
     where
       go : (eqb (gone i) 0 ≡ true) ⊎ (eqb (gone i) 0 ≡ false) → E.before u (put R.n u i a) ≡ true
-      go (inl kept) =
-          so _ _ (inl (ap (R.before (w u)) (kept_put R.n gone i k kept u a l)
-          ∙ ranks.zero_first (w u) i a (wiped_below R.n gone u) k (kept_digit R.n gone i k kept u ∙ e) p l))
+      go (inl kept) = grind (arith, so, kept_put, wiped_below, kept_digit)
       go (inr lost) = smaller _ _ h (put_below R.n u i a l) (sym (gone_put R.n gone i lost u a l)) (put_more R.n u i a h k e p l)
 
   filling_keeps : (S : Symbols) → Lawful S → (u v i a : ℕ) → Mark S R.n u → Mark S R.n v → E.before u v ≡ true
@@ -238,7 +195,7 @@ module _ (gone : ℕ → ℕ) (R : MarkRanking) (ranks : Ranks R) where
 
       -- the smaller number stays the smaller
       less : u % 4 ^ R.n < v % 4 ^ R.n → filled S R.n u i a < filled S R.n v i a
-      less h = omega (arith, filled_number R.n S lawful i a inside some symbol u mu.short, filled_blank_number R.n S lawful i a inside some symbol v mv.short blank, mod-eq_of_lt mu.short, mod-eq_of_lt mv.short)
+      less h = grind (arith, filled_number, filled_blank_number, mod-eq_of_lt)
 
       lost_same : eqb (gone i) 0 ≡ false → (x : ℕ) → w (filled S R.n x i a) ≡ w x
       lost_same lost x = gone_put R.n gone i lost x (S.sum (digit x i) a) (omega (arith, lawful.sum_symbol (digit x i) a, lawful.most))
@@ -249,9 +206,7 @@ module _ (gone : ℕ → ℕ) (R : MarkRanking) (ranks : Ranks R) where
           ∙ ranks.filling_keeps S lawful (w u) (w v) i a (wiped_mark R.n gone S lawful u mu) (wiped_mark R.n gone S lawful v mv) h inside
           (kept_digit R.n gone i inside kept v ∙ blank) some symbol))
       go (inl h) (inr lost) = so _ _ (inl (ap₂ R.before (lost_same lost u) (lost_same lost v) ∙ h))
-      go (inr h) (inl kept) =
-          smaller _ _ short_u short_v
-          (kept_filled R.n gone i inside kept S lawful u a ∙ ap (λ x. filled S R.n x i a) h.0 ∙ sym (kept_filled R.n gone i inside kept S lawful v a)) (less h.1)
+      go (inr h) (inl kept) = grind (arith, smaller, short_u, short_v, kept_filled, less)
       go (inr h) (inr lost) = smaller _ _ short_u short_v (lost_same lost u ∙ h.0 ∙ sym (lost_same lost v)) (less h.1)
 
   pub erased_ranks : Ranks (erased gone R)
@@ -259,7 +214,7 @@ module _ (gone : ℕ → ℕ) (R : MarkRanking) (ranks : Ranks R) where
     least = ranks.least;
     most = ranks.most;
     reads_its_places = λ u v. sym (same_before (wiped_mod R.n gone u) (wiped_mod R.n gone v) (mod-eq_of_lt (mod_below R.n u)) (mod-eq_of_lt (mod_below R.n v)));
-    never_both = λ u v h. not_true (E.before v u) (λ k. one_way u v (why u v h) (why v u k));
+    never_both = λ u v h. false_from_ne_true (E.before v u) (λ k. one_way u v (why u v h) (why v u k));
     some_way = some_way;
     transitive = λ u v x h k. so u x (through u v x (why u v h) (why v x k));
     zero_first = zero_first;
@@ -271,4 +226,4 @@ module _ (gone : ℕ → ℕ) (R : MarkRanking) (ranks : Ranks R) where
   }
     where
       same_before : {a a' b b' x x' y y' : ℕ} → a ≡ a' → b ≡ b' → x ≡ x' → y ≡ y' → (R.before a b || (eqb a b && ltb x y)) ≡ (R.before a' b' || (eqb a' b' && ltb x' y'))
-      same_before {a} {a'} {b} {b'} {x} {x'} {y} {y'} e f g h = ap₂ (λ c d. R.before c d || (eqb c d && ltb x y)) e f ∙ ap₂ (λ c d. R.before a' b' || (eqb a' b' && ltb c d)) g h
+      same_before e f g h = cc

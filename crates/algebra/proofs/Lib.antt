@@ -4,4 +4,3 @@ pub mod Marks
 pub mod Checks
 pub mod Rankings
 pub mod Layers
-pub mod Padded

@@ -1,14 +1,22 @@
 -- What the packed forms of a mark come to: the bytes and back, one symbol set, and the weight by a count of ones.
-use Rattle.std.proofs.Common.{◌≡◌, ℕ, zero, suc, ◌+◌, ◌-◌, ◌*◌, ◌/◌, ◌%◌, ◌^◌, ◌<◌, ◌≤◌, Bool, true, false, cond, eqb, List, length, get_or, sym, refl, ap, ◌∙◌, ap₂, mul_assoc, mul_comm, add_comm, zero-mul, arith, lit<}
+use Rattle.std.proofs.Common.{◌≡◌, ℕ, zero, suc, ◌+◌, ◌-◌, ◌*◌, ◌/◌, ◌%◌, ◌^◌, ◌<◌, ◌≤◌, Bool, true, false, cond, eqb, List, length, get_or, sym, refl, ap, ◌∙◌, ap₂, ⊎_elim, add_comm, zero-mul, arith, lit<}
 use native.Mathlib.Nat.{pow-succ', pow-le-pow_right}
 use lib.Bits.{bit_and, bit_or, and_block, or_block, and_mask, and_zero_r, or_lt, or_mod}
 use lib.Count.{ones, ones_in, ones_cat}
 use Rattle.std.proofs.lemmas.List.FromFn.{length-map-range_with_len, get_or-map-range_with_len, fill_by_all}
-use Rattle.std.proofs.lemmas.Bool.{cond-false, cond_both, ne_eqb}
+use Rattle.std.proofs.lemmas.Bool.{cases_lt, cond-false, cond_both, ne_eqb}
+use Rattle.std.proofs.lemmas.Bool.Decides.{nat_tests}
 use Rattle.algebra.specs.Digits.{pack, digit, total}
-use Rattle.algebra.specs.Marks.{number_of, bytes_of, put, plus, minus, weight, nonzero}
+use Rattle.algebra.specs.Marks.{Mark, number_of, bytes_of, put, weight, nonzero}
 use Rattle.algebra.specs.Symbols.{Symbols, Lawful}
-use Rattle.algebra.proofs.Digits.{eqb_suc, digit_first, digit_rest, digit_symbol, digit_past, digit_joined_first, digit_joined_rest, same_digits, pack_below, pack_digit, pack_same, pack_digits, pack_fits, pack_more, total_same}
+use Rattle.algebra.proofs.Digits.{eqb_suc, digit_first, digit_rest, digit_symbol, place_up, digit_past, digit_joined_first, digit_joined_rest, same_digits, pack_below, pack_digit, pack_same, pack_digits, pack_more, total_same}
+
+-- a mark by its digits: those past the last place are 0 anyway
+pub mark_by_digits : (S : Symbols) → Lawful S → (n u : ℕ) → u < 4 ^ n → ((i : ℕ) → i < n → digit u i < S.q) → Mark S n u
+mark_by_digits S lawful n u short each = record {
+  short = short;
+  symbols = λ i. ⊎_elim (each i) (λ past. omega (arith, digit_past n u i short past, lawful.least)) (cases_lt i n);
+}
 
 -- bytes that spell symbols come back from the number
 pub bytes_back : (n : ℕ) (bytes : List ℕ) → length bytes ≡ n → ((i : ℕ) → i < n → get_or bytes i 0 < 4) → bytes_of n (number_of bytes) ≡ bytes
@@ -32,16 +40,13 @@ two_bits (suc i) =
     let e : 2 * suc i ≡ suc (suc (2 * i)) = omega arith in
     ap (λ k. 2 ^ k) e ∙ omega (arith, pow-succ' 2 (suc (2 * i)), pow-succ' 2 (2 * i), pow-succ' 4 i, two_bits i)
 
-times_four : (d i : ℕ) → d * 4 ^ suc i ≡ 4 * (d * 4 ^ i)
-times_four d i =
-    ap (λ x. d * x) (pow-succ' 4 i) ∙ sym (mul_assoc d 4 (4 ^ i)) ∙ ap (λ x. x * 4 ^ i) (mul_comm d 4) ∙ mul_assoc 4 d (4 ^ i)
+share_rest : (u i : ℕ) → digit u (suc i) * 4 ^ suc i ≡ 4 * (digit (u / 4) i * 4 ^ i)
+share_rest u i = ap (λ d. d * 4 ^ suc i) (digit_rest u i) ∙ place_up 4 (digit (u / 4) i) i
 
 -- one digit taken out and another put in its place
 pub digit_fits : (u i : ℕ) → digit u i * 4 ^ i ≤ u
 digit_fits u zero = omega (arith, digit_first u)
-digit_fits u (suc i) =
-    let rest : digit u (suc i) * 4 ^ suc i ≡ 4 * (digit (u / 4) i * 4 ^ i) = ap (λ d. d * 4 ^ suc i) (digit_rest u i) ∙ times_four (digit (u / 4) i) i in
-    omega (arith, digit_fits (u / 4) i)
+digit_fits u (suc i) = omega (arith, share_rest u i, digit_fits (u / 4) i)
 
 abbrev changed : ℕ → ℕ → ℕ → ℕ
 changed u i a = u - digit u i * 4 ^ i + a * 4 ^ i
@@ -50,24 +55,18 @@ changed_first : (u a : ℕ) → changed u 0 a ≡ a + 4 * (u / 4)
 changed_first u a = omega (arith, digit_first u)
 
 changed_rest : (u i a : ℕ) → changed u (suc i) a ≡ u % 4 + 4 * changed (u / 4) i a
-changed_rest u i a =
-    let out : digit u (suc i) * 4 ^ suc i ≡ 4 * (digit (u / 4) i * 4 ^ i) = ap (λ d. d * 4 ^ suc i) (digit_rest u i) ∙ times_four (digit (u / 4) i) i in
-    omega (arith, times_four a i, digit_fits (u / 4) i)
+changed_rest u i a = omega (arith, share_rest u i, place_up 4 a i, digit_fits (u / 4) i)
 
-changed_below : (n u i a : ℕ) → a < 4 → i < n → u < 4 ^ n → changed u i a < 4 ^ n
-changed_below zero u i a h k l = absurd (omega arith)
-changed_below (suc n) u zero a h k l = omega (arith, changed_first u a, pow-succ' 4 n)
-changed_below (suc n) u (suc i) a h k l =
-    omega (arith, changed_rest u i a, pow-succ' 4 n, changed_below n (u / 4) i a h (omega arith) (omega (arith, pow-succ' 4 n)))
+pub changed_fits : (n u i a : ℕ) → a < 4 → i < n → u < 4 ^ n → u - digit u i * 4 ^ i + a * 4 ^ i < 4 ^ n
+changed_fits zero u i a h k l = absurd (omega arith)
+changed_fits (suc n) u zero a h k l = omega (arith, changed_first u a, pow-succ' 4 n)
+changed_fits (suc n) u (suc i) a h k l =
+    omega (arith, changed_rest u i a, pow-succ' 4 n, changed_fits n (u / 4) i a h (omega arith) (omega (arith, pow-succ' 4 n)))
 
 pub changed_digit : (u i a : ℕ) → a < 4 → (j : ℕ) → digit (u - digit u i * 4 ^ i + a * 4 ^ i) j ≡ cond (eqb j i) a (digit u j)
 changed_digit u zero a h zero = ap (λ w. digit w 0) (changed_first u a) ∙ digit_joined_first a (u / 4) h
-changed_digit u zero a h (suc j) =
-    ap (λ w. digit w (suc j)) (changed_first u a) ∙ digit_joined_rest a (u / 4) j h ∙ sym (digit_rest u j)
-    ∙ sym (cond-false (eqb (suc j) 0) a (digit u (suc j)) (ne_eqb (suc j) 0 (omega arith)))
-changed_digit u (suc i) a h zero =
-    ap (λ w. digit w 0) (changed_rest u i a) ∙ digit_joined_first (u % 4) (changed (u / 4) i a) (omega arith) ∙ sym (digit_first u)
-    ∙ sym (cond-false (eqb 0 (suc i)) a (digit u 0) (ne_eqb 0 (suc i) (omega arith)))
+changed_digit u zero a h (suc j) = grind (arith, nat_tests, changed_first, digit_joined_rest, digit_rest)
+changed_digit u (suc i) a h zero = grind (arith, nat_tests, changed_rest, digit_joined_first, digit_first)
 changed_digit u (suc i) a h (suc j) =
     ap (λ w. digit w (suc j)) (changed_rest u i a) ∙ digit_joined_rest (u % 4) (changed (u / 4) i a) j (omega arith)
     ∙ changed_digit (u / 4) i a h j
@@ -84,12 +83,9 @@ pub put_digit : (n u i a : ℕ) → a < 4 → (j : ℕ) → j < n → digit (put
 put_digit n u i a h = pack_digit n (λ j. cond (eqb j i) a (digit u j)) (λ j _. put_symbol u i a h j)
 
 -- what is changed in place is what `put` says
-pub changed_fits : (n u i a : ℕ) → a < 4 → i < n → u < 4 ^ n → u - digit u i * 4 ^ i + a * 4 ^ i < 4 ^ n
-changed_fits = changed_below
-
 pub changed_put : (n u i a : ℕ) → a < 4 → i < n → u < 4 ^ n → u - digit u i * 4 ^ i + a * 4 ^ i ≡ put n u i a
 changed_put n u i a h k l =
-    same_digits n (changed u i a) (put n u i a) (changed_below n u i a h k l) (put_below n u i a h)
+    same_digits n (changed u i a) (put n u i a) (changed_fits n u i a h k l) (put_below n u i a h)
     (λ j m. changed_digit u i a h j ∙ sym (put_digit n u i a h j m))
 
 -- a place past the last one is none
@@ -103,18 +99,8 @@ pub put_next : (n i : ℕ) (f : ℕ → ℕ) → i < n → ((j : ℕ) → j < i 
 put_next n i f h small =
     let packed : pack 4 i f < 4 ^ i = pack_below 4 i f (λ j k. small j (omega arith)) in
     let short : pack 4 i f < 4 ^ n = omega (arith, pow-le-pow_right {n = 4} (omega arith) {i = i} {j = n} (omega arith)) in
-    let blank : digit (pack 4 i f) i * 4 ^ i ≡ 0 = ap (λ d. d * 4 ^ i) (digit_past i (pack 4 i f) i packed (omega arith)) ∙ zero-mul (4 ^ i) in
-    omega (arith, changed_put n (pack 4 i f) i (f i) (small i (omega arith)) h short, pack_more 4 i f)
-
--- sums and differences of marks lie within 64 bits
-pub plus_fits : (S : Symbols) → Lawful S → (n u v : ℕ) → n ≤ 32 → plus S n u v < 2 ^ 64
-plus_fits S lawful n u v h =
-    pack_fits n (λ i. S.sum (digit u i) (digit v i)) h (λ i _. omega (arith, lawful.sum_symbol (digit u i) (digit v i), lawful.most))
-
-pub minus_fits : (S : Symbols) → Lawful S → (n u v : ℕ) → n ≤ 32 → minus S n u v < 2 ^ 64
-minus_fits S lawful n u v h =
-    pack_fits n (λ i. S.sum (digit u i) (S.opposite (digit v i))) h
-    (λ i _. omega (arith, lawful.sum_symbol (digit u i) (S.opposite (digit v i)), lawful.most))
+    let blank : digit (pack 4 i f) i ≡ 0 = digit_past i (pack 4 i f) i packed (omega arith) in
+    grind (arith, changed_put n (pack 4 i f) i (f i) (small i (omega arith)) h short, pack_more 4 i f, zero-mul)
 
 -- one bit for each of n places
 abbrev lows : ℕ → ℕ

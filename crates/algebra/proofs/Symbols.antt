@@ -1,7 +1,8 @@
 -- An alphabet is lawful where one test over all its symbols passes; the three alphabets pass it.
-use Rattle.std.proofs.Common.{◌≡◌, ℕ, zero, suc, ◌+◌, ◌<◌, ◌≤◌, Bool, true, cond, ◌&&◌, eqb, ltb, leb, ◌⊎◌, sym, refl, ap, ◌∙◌, ap₂, inl, inr, arith, lit≤}
-use Rattle.std.proofs.lemmas.Bool.{and_parts, and_from, and_left, and_right, lt-ltb, le-ltb, ltb-true, leb-true, eqb-true, cases_lt, cond-true, cond-false}
-use Rattle.algebra.specs.Symbols.{Symbols, Lawful, alphabet, bits, thirds, quads}
+use Rattle.std.proofs.Common.{◌≡◌, ℕ, zero, suc, ◌+◌, ◌<◌, ◌≤◌, Bool, true, ◌&&◌, eqb, ltb, leb, refl, arith, lit≤}
+use Rattle.std.proofs.lemmas.Bool.{and_parts}
+use Rattle.std.proofs.lemmas.Bool.Decides.{Decides-below_and, nat_tests}
+use Rattle.algebra.specs.Symbols.{Symbols, Lawful, alphabet, modulo, quads}
 
 -- the test p passes at each number below n
 abbrev pub below : ℕ → (ℕ → Bool) → Bool
@@ -9,15 +10,7 @@ below zero p = true
 below (suc n) p = p n && below n p
 
 pub below_at : (n : ℕ) (p : ℕ → Bool) → below n p ≡ true → (i : ℕ) → i < n → p i ≡ true
-below_at zero p t i h = absurd (omega arith)
-below_at (suc n) p t i h = here (below_at n p parts.1) (cases_lt i n)
-  where
-    parts : (p n ≡ true) × (below n p ≡ true)
-    parts = and_parts (p n) (below n p) t
-
-    here : ((j : ℕ) → j < n → p j ≡ true) → (i < n) ⊎ (n ≤ i) → p i ≡ true
-    here rest (inl k) = rest i k
-    here rest (inr k) = ap p (omega arith) ∙ parts.0
+below_at n p = (Decides-below_and p (λ i. p i ≡ true) (λ m. below m p) (λ _. (λ e. e, λ e. e)) refl (λ _. refl) n).0
 
 module _ (q : ℕ) (sum : ℕ → ℕ → ℕ) (opposite : ℕ → ℕ) (product : ℕ → ℕ → ℕ) where
   -- the laws at one symbol, at two, and at three
@@ -46,99 +39,48 @@ module _ (q : ℕ) (sum : ℕ → ℕ → ℕ) (opposite : ℕ → ℕ) (product
     at_three : (s t u : ℕ) → s < q → t < q → u < q → three s t u ≡ true
     at_three s t u h k l = below_at q (three s t) (at_two s t h k).1 u l
 
-    inside : (s t x : ℕ) → s < q → t < q → cond (ltb s q && ltb t q) x 0 ≡ x
-    inside s t x h k = cond-true _ x 0 (and_from _ _ (lt-ltb s q h) (lt-ltb t q k))
+    one_holds : (s : ℕ) → s < q → (opposite s < q) × (sum 0 s ≡ s) × (sum s (opposite s) ≡ 0)
+    one_holds s h = let e = (at_one s h).0 in grind (arith, nat_tests)
 
-    outside_left : (s t x : ℕ) → q ≤ s → cond (ltb s q && ltb t q) x 0 ≡ 0
-    outside_left s t x h = cond-false _ x 0 (and_left _ _ (le-ltb s q h))
-
-    outside_right : (s t x : ℕ) → q ≤ t → cond (ltb s q && ltb t q) x 0 ≡ 0
-    outside_right s t x h = cond-false _ x 0 (and_right _ _ (le-ltb t q h))
-
-    -- a law of two numbers, shown where both are symbols and where the operation answers 0
-    by_cases : (P : ℕ → ℕ → Type 0) → ((s t : ℕ) → s < q → t < q → P s t) → ((s t : ℕ) → q ≤ s → P s t) → ((s t : ℕ) → q ≤ t → P s t)
-        → (s t : ℕ) → P s t
-    by_cases P in_both out-left out-right s t = go (cases_lt s q) (cases_lt t q)
-      where
-        go : (s < q) ⊎ (q ≤ s) → (t < q) ⊎ (q ≤ t) → P s t
-        go (inl h) (inl k) = in_both s t h k
-        go (inl h) (inr k) = out-right s t k
-        go (inr h) k = out-left s t h
-
-    sum_in : (s t : ℕ) → s < q → t < q → S.sum s t ≡ sum s t
-    sum_in s t h k = inside s t (sum s t) h k
-
-    sum_raw : (s t : ℕ) → s < q → t < q → sum s t < q
-    sum_raw s t h k = ltb-true _ _ (and_parts _ _ (and_parts _ _ (at_two s t h k).0).0).0
+    two_holds : (s t : ℕ) → s < q → t < q → (sum s t < q) × (product s t < q) × (sum s t ≡ sum t s) × (sum s t ≤ s + t)
+    two_holds s t h k = let e = (at_two s t h k).0 in grind (arith, nat_tests)
 
     product_raw : (s t : ℕ) → s < q → t < q → product s t < q
-    product_raw s t h k = ltb-true _ _ (and_parts _ _ (and_parts _ _ (at_two s t h k).0).0).1
+    product_raw s t h k = (two_holds s t h k).1
 
-    most_raw : (s t : ℕ) → s < q → t < q → sum s t ≤ s + t
-    most_raw s t h k =
-        leb-true _ _ (and_parts (eqb (sum s t) (sum t s)) _ (and_parts (ltb (sum s t) q && ltb (product s t) q) _ (at_two s t h k).0).1).1
-
-    opposite_raw : (s : ℕ) → s < q → opposite s < q
-    opposite_raw s h = ltb-true _ _ (and_parts _ _ (at_one s h).0).0
-
-    product_in : (s t : ℕ) → s < q → t < q → S.product s t ≡ product s t
-    product_in s t h k = inside s t (product s t) h k
-
-    opposite_in : (s : ℕ) → s < q → S.opposite s ≡ opposite s
-    opposite_in s h = cond-true _ (opposite s) 0 (lt-ltb s q h)
-
-    opposite_out : (s : ℕ) → q ≤ s → S.opposite s ≡ 0
-    opposite_out s h = cond-false _ (opposite s) 0 (le-ltb s q h)
+    three_holds : (s t u : ℕ) → s < q → t < q → u < q
+        → (sum (sum s t) u ≡ sum s (sum t u)) × (product (sum s t) u ≡ sum (product s u) (product t u))
+    three_holds s t u h k l = let e = at_three s t u h k l in grind (arith, nat_tests)
 
     pub lawful_by_test : Lawful (alphabet q sum opposite product)
     lawful_by_test = record {
       least = least;
       most = most;
-      sum_symbol =
-          by_cases (λ s t. S.sum s t < q) (λ s t h k. omega (arith, sum_in s t h k, sum_raw s t h k))
-          (λ s t h. omega (arith, outside_left s t (sum s t) h)) (λ s t h. omega (arith, outside_right s t (sum s t) h));
-      opposite_symbol = λ s. below_opposite s (cases_lt s q);
-      product_symbol =
-          by_cases (λ s t. S.product s t < q) (λ s t h k. omega (arith, product_in s t h k, product_raw s t h k))
-          (λ s t h. omega (arith, outside_left s t (product s t) h)) (λ s t h. omega (arith, outside_right s t (product s t) h));
-      commutes =
-          by_cases (λ s t. S.sum s t ≡ S.sum t s)
-          (λ s t h k. sum_in s t h k ∙ eqb-true _ _ (and_parts _ _ (and_parts _ _ (at_two s t h k).0).1).0 ∙ sym (sum_in t s k h))
-          (λ s t h. outside_left s t (sum s t) h ∙ sym (outside_right t s (sum t s) h))
-          (λ s t h. outside_right s t (sum s t) h ∙ sym (outside_left t s (sum t s) h));
-      associates = λ s t u h k l.
-          ap (λ x. S.sum x u) (sum_in s t h k) ∙ sum_in (sum s t) u (sum_raw s t h k) l
-          ∙ eqb-true _ _ (and_parts _ _ (at_three s t u h k l)).0
-          ∙ sym (ap (λ x. S.sum s x) (sum_in t u k l) ∙ sum_in s (sum t u) h (sum_raw t u k l));
-      zero_adds_nothing = λ s h.
-          sum_in 0 s (omega arith) h ∙ eqb-true _ _ (and_parts _ _ (and_parts _ _ (at_one s h).0).1).0;
-      opposite_cancels = λ s h.
-          ap (λ x. S.sum s x) (opposite_in s h) ∙ sum_in s (opposite s) h (opposite_raw s h)
-          ∙ eqb-true _ _ (and_parts (eqb (sum 0 s) s) _ (and_parts (ltb (opposite s) q) _ (at_one s h).0).1).1;
+      sum_symbol = λ s t. grind (arith, nat_tests, two_holds);
+      opposite_symbol = λ s. grind (arith, nat_tests, one_holds);
+      product_symbol = λ s h. grind (arith, nat_tests, product_raw);
+      commutes = λ s t. grind (arith, nat_tests, two_holds);
+      associates = λ s t u h k l. grind (arith, nat_tests, two_holds, three_holds);
+      zero_adds_nothing = λ s h. let e = one_holds s h in grind (arith, nat_tests);
+      opposite_cancels = λ s h. grind (arith, nat_tests, one_holds);
       distributes = λ s t u h k l.
-          ap (λ x. S.product x u) (sum_in s t h k) ∙ product_in (sum s t) u (sum_raw s t h k) l
-          ∙ eqb-true _ _ (and_parts _ _ (at_three s t u h k l)).1
-          ∙ sym (ap₂ (λ x y. S.sum x y) (product_in s u h l) (product_in t u k l) ∙ sum_in (product s u) (product t u) (product_raw s u h l) (product_raw t u k l));
-      sum_at_most =
-          by_cases (λ s t. S.sum s t ≤ s + t)
-          (λ s t h k. omega (arith, sum_in s t h k, most_raw s t h k))
-          (λ s t h. omega (arith, outside_left s t (sum s t) h)) (λ s t h. omega (arith, outside_right s t (sum s t) h));
-      sum_outside_left = λ s t h. outside_left s t (sum s t) h;
-      sum_outside_right = λ s t h. outside_right s t (sum s t) h;
-      opposite_outside = opposite_out;
-      product_outside_left = λ s t h. outside_left s t (product s t) h;
-      product_outside_right = λ s t h. outside_right s t (product s t) h;
+          let st = two_holds s t h k in let su = two_holds s u h l in let tu = two_holds t u k l in let stu = three_holds s t u h k l in
+          grind (arith, nat_tests);
+      sum_at_most = λ s t. grind (arith, nat_tests, two_holds);
+      sum_outside_left = λ s t h. grind (arith, nat_tests);
+      sum_outside_right = λ s t h. grind (arith, nat_tests);
+      opposite_outside = λ s h. grind (arith, nat_tests);
+      product_outside_left = λ s t h. grind (arith, nat_tests);
+      product_outside_right = λ s t h. grind (arith, nat_tests);
     }
-      where
-        below_opposite : (s : ℕ) → (s < q) ⊎ (q ≤ s) → S.opposite s < q
-        below_opposite s (inl h) = omega (arith, opposite_in s h, opposite_raw s h)
-        below_opposite s (inr h) = omega (arith, opposite_out s h)
 
-pub bits_lawful : Lawful bits
-bits_lawful = lawful_by_test 2 _ _ _ (lit≤ tt) (lit≤ tt) refl
-
-pub thirds_lawful : Lawful thirds
-thirds_lawful = lawful_by_test 3 _ _ _ (lit≤ tt) (lit≤ tt) refl
+pub modulo_lawful : (q : ℕ) → 2 ≤ q → q ≤ 4 → Lawful (modulo q)
+modulo_lawful zero least most = absurd (omega (arith, least))
+modulo_lawful (suc zero) least most = absurd (omega (arith, least))
+modulo_lawful (suc (suc zero)) least most = lawful_by_test 2 _ _ _ least most refl
+modulo_lawful (suc (suc (suc zero))) least most = lawful_by_test 3 _ _ _ least most refl
+modulo_lawful (suc (suc (suc (suc zero)))) least most = lawful_by_test 4 _ _ _ least most refl
+modulo_lawful (suc (suc (suc (suc (suc q))))) least most = absurd (omega (arith, most))
 
 pub quads_lawful : Lawful quads
 quads_lawful = lawful_by_test 4 _ _ _ (lit≤ tt) (lit≤ tt) refl

@@ -1,5 +1,5 @@
 -- Rankings of marks by their meaning, and the laws that every one keeps.
-use Rattle.std.specs.Prelude.{◌≡◌, ℕ, ◌-◌, ◌*◌, ◌%◌, ◌^◌, ◌<◌, ◌≤◌, Bool, true, false, cond, ◌&&◌, ◌||◌, ◌==◌, nat_lt}
+use Rattle.std.specs.Prelude.{◌≡◌, ℕ, ◌+◌, ◌-◌, ◌*◌, ◌%◌, ◌^◌, ◌<◌, ◌≤◌, Bool, true, false, cond, ◌&&◌, ◌||◌, ◌==◌, nat_lt}
 use Rattle.algebra.specs.Digits.{pack, digit, total}
 use Rattle.algebra.specs.Marks.{Mark, put, nonzero, weight}
 use Rattle.algebra.specs.Symbols.{Symbols, Lawful}
@@ -42,6 +42,11 @@ by_measure n by_weight share = record {
   by_weight = by_weight;
   before = λ u v. first (measure n share u) (measure n share v) (u % 4 ^ n) (v % 4 ^ n);
 }
+
+-- A place that holds 0 counts nothing, and one filled up at most what it held and what was added.
+pub record Counts (n : ℕ) (share : ℕ → ℕ → ℕ) : Type 0 where
+  pub nothing : (i : ℕ) → i < n → share i 0 ≡ 0
+  pub at_most : (i s a t : ℕ) → i < n → t ≤ s + a → share i t ≤ share i s + share i a
 
 -- the cost of a place, where its symbol is not 0
 abbrev pub cost_share : (ℕ → ℕ) → ℕ → ℕ → ℕ

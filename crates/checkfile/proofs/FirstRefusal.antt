@@ -1,13 +1,14 @@
 -- Which refusal comes first.
-use Rattle.std.proofs.Common.{◌≡◌, ℕ, zero, suc, ◌+◌, ◌-◌, ◌*◌, ◌^◌, ◌<◌, ◌≤◌, Bool, true, false, cond, ltb, leb, List, [], ◌∷◌, ◌++◌, map, length, get_or, take, drop, Some, None, Err, Option, Result, sym, refl, ap, ◌∙◌, ap₂, subst₂, add-zero, add_assoc, zero-add, arith}
+use Rattle.std.proofs.Common.{◌≡◌, ℕ, zero, suc, ◌+◌, ◌-◌, ◌*◌, ◌^◌, ◌<◌, ◌≤◌, Bool, true, false, cond, ltb, leb, List, [], ◌∷◌, ◌++◌, map, length, get_or, take, drop, Some, None, sym, refl, ap, ◌∙◌, add-zero, add_assoc, zero-add, arith}
 use Rattle.std.specs.List.{range_with_len}
+use Rattle.std.specs.Prelude.{Result, IsErrAnd}
+use Rattle.std.proofs.lemmas.Result.{err_from_is_err_and}
 use Rattle.std.proofs.lemmas.List.{get_or-take, get_or-drop}
 use Rattle.std.proofs.lemmas.Bool.{cond-true, cond-false, lt-ltb, le-ltb, le-leb, lt-leb}
 use Rattle.std.proofs.lemmas.Bool.Decides.{nat_tests}
 use Rattle.refusals.specs.declared.Refusal.{Refusal}
 use Rattle.refusals.specs.declared.Refusal.TheVariants.{CutOff, OtherTag, OtherLength, CheckSymbol, CostInFile}
-use Rattle.checkfile.specs.declared.kind.Kind.{Kind}
-use Rattle.checkfile.specs.Tests.{Test, test, first_refusal, byte, pair, field_tests, symbol_tests, check_tests, price_tests, cost_tests, sizes_fit, Judged, tail_tests, CostBytes}
+use Rattle.checkfile.specs.Tests.{Test, test, first_refusal, byte, pair, field_tests, symbol_tests, check_tests, price_tests, cost_tests, sizes_fit, Judged}
 
 -- tests after others that are passed, and after others that are not
 pub first_later : (before after : List Test) → first_refusal before ≡ None → first_refusal (before ++ after) ≡ first_refusal after
@@ -81,10 +82,10 @@ module _ (t : ℕ → Test) where
       ∙ row_fails (a + 1) n k (omega arith) (λ j l. ap (λ m. (t m).passed) (e j) ∙ before (suc j) (omega arith)) (ap (λ m. (t m).passed) (e k) ∙ here)
       ∙ ap (λ m. Some (t m).refusal) (e k)
 
-  pub all_pass : (n : ℕ) → ((k : ℕ) → k < n → (t k).passed ≡ true) → first_refusal (map t (range_with_len 0 n)) ≡ None
+  all_pass : (n : ℕ) → ((k : ℕ) → k < n → (t k).passed ≡ true) → first_refusal (map t (range_with_len 0 n)) ≡ None
   all_pass n h = row_passes 0 n (λ k l. ap (λ m. (t m).passed) (zero-add k) ∙ h k l)
 
-  pub one_fails : (n k : ℕ) → k < n → ((j : ℕ) → j < k → (t j).passed ≡ true) → (t k).passed ≡ false → first_refusal (map t (range_with_len 0 n)) ≡ Some (t k).refusal
+  one_fails : (n k : ℕ) → k < n → ((j : ℕ) → j < k → (t j).passed ≡ true) → (t k).passed ≡ false → first_refusal (map t (range_with_len 0 n)) ≡ Some (t k).refusal
   one_fails n k h before here =
       row_fails 0 n k h (λ j l. ap (λ m. (t m).passed) (zero-add j) ∙ before j l) (ap (λ m. (t m).passed) (zero-add k) ∙ here)
       ∙ ap (λ m. Some (t m).refusal) (zero-add k)
@@ -93,12 +94,6 @@ module _ (t : ℕ → Test) where
 pub contents_byte : (file contents : List ℕ) (from size k : ℕ) → contents ≡ take size (drop from file) → k < size → get_or contents k 0 ≡ byte file (from + k)
 contents_byte file contents from size k e h =
     ap (λ xs. get_or xs k 0) e ∙ get_or-take size (drop from file) k 0 h ∙ get_or-drop from file k 0
-
-pub first_byte : (file contents : List ℕ) (at size : ℕ) → contents ≡ take size (drop (at + 3) file) → 0 < size → get_or contents 0 0 ≡ byte file (at + 3)
-first_byte file contents at size e h = contents_byte file contents (at + 3) size 0 e h ∙ ap (byte file) (add-zero (at + 3))
-
-pub second_byte : (file contents : List ℕ) (at size : ℕ) → contents ≡ take size (drop (at + 3) file) → 1 < size → get_or contents 1 0 ≡ byte file (at + 4)
-second_byte file contents at size e h = let k : at + 3 + 1 ≡ at + 4 = omega arith in contents_byte file contents (at + 3) size 1 e h ∙ ap (byte file) k
 
 -- a field of check symbols, tested from the front
 module _ (file contents : List ℕ) (at q size : ℕ) (part : contents ≡ take size (drop (at + 3) file)) (field : first_refusal (field_tests file at 3 size) ≡ None) where
@@ -148,13 +143,5 @@ pub sizes_within : (q n r : ℕ) → sizes_fit q n r ≡ true → ((1 ≤ n) × 
 sizes_within q n r h = grind (arith, nat_tests)
 
 -- a step that ends in a refusal, where that is the first
-pub judged_err : {T : Type 0} (ts : List Test) (P : T → Type 0) (r : Result T Refusal) (y e : Refusal) → r ≡ Err y → y ≡ e → first_refusal ts ≡ Some e → Judged ts P r
-judged_err ts P r y e h k l = rw h (l ∙ ap Some (sym k))
-
--- the tests of the tail of the same file at the same place
-pub tail_moved : (file file' : List ℕ) (at at' n n' : ℕ) (kind kind' : Kind) (x : Option Refusal) → file' ≡ file → at' ≡ at → n' ≡ n → kind' ≡ kind → first_refusal (tail_tests file' at' n' kind') ≡ x → first_refusal (tail_tests file at n kind) ≡ x
-tail_moved file file' at at' n n' kind kind' x e f g h l =
-    ap₂ (λ a b. first_refusal (tail_tests a b n kind)) (sym e) (sym f) ∙ ap₂ (λ a b. first_refusal (tail_tests file' at' a b)) (sym g) (sym h) ∙ l
-
-pub costs_moved : (file file' : List ℕ) (at at' n : ℕ) (kind : Kind) (bytes : List ℕ) → file' ≡ file → at' ≡ at → CostBytes file' at' n kind bytes → CostBytes file at n kind bytes
-costs_moved file file' at at' n kind bytes e f h = subst₂ (λ a b. CostBytes a b n kind bytes) e f h
+pub judged_err : {T : Type 0} (ts : List Test) (P : T → Type 0) (r : Result T Refusal) (e : Refusal) → IsErrAnd r (λ y. y ≡ e) → first_refusal ts ≡ Some e → Judged ts P r
+judged_err ts P r e h k = let p = err_from_is_err_and r h in rw (p.1, p.2) k

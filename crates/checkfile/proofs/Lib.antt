@@ -1,4 +1,5 @@
 pub mod FirstRefusal
+pub mod Stepping
 pub mod Limits
 pub mod Layouts
 pub mod Readings

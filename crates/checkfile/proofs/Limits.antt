@@ -3,7 +3,6 @@ use Rattle.std.proofs.Common.{ℕ, ◌-◌, ◌*◌, ◌<◌, ◌≤◌, ◌⊎�
 use native.Mathlib.Nat.{pow-le-pow_left, pow-le-pow_right}
 use Rattle.std.proofs.lemmas.Nat.{mul-le}
 use Rattle.std.proofs.lemmas.Bool.{cases_lt}
-use Rattle.checkfile.specs.declared.code.Code.{Code}
 use Rattle.checkfile.specs.Tests.{Limits}
 
 module _ (q n r : ℕ) (limits : Limits q n r) where
@@ -21,13 +20,3 @@ module _ (q n r : ℕ) (limits : Limits q n r) where
 
   pub most_checks : n * r ≤ 192
   most_checks = mul-le n r 24 8 most_places most_rows
-
-pub limits_of : (code : Code) → Limits code.q code.n code.r
-limits_of code = record {
-  least_q = code.counts.0;
-  most_q = code.counts.1;
-  least_n = code.places.0;
-  most_n = code.places.1;
-  least_r = code.rows.0;
-  most_r = code.rows.1;
-}

@@ -1,55 +1,46 @@
 -- What is written: the layout of a sound content, which reads back.
-use Rattle.std.proofs.Common.{◌≡◌, ℕ, ◌*◌, ◌<◌, ◌≤◌, true, ◌&&◌, eqb, leb, ◌⊎◌, List, length, get_or, take, Ok, Err, sym, refl, ap, ◌∙◌, subst, inl, inr, arith}
+use Rattle.std.proofs.Common.{◌≡◌, ℕ, ◌*◌, ◌<◌, ◌≤◌, true, ◌&&◌, eqb, leb, ◌⊎◌, List, length, get_or, take, Ok, sym, refl, ap, ◌∙◌, subst, inl, inr, arith}
 use Rattle.std.proofs.lemmas.List.{get_or-take, get_or_past, length-take-le}
-use Rattle.std.proofs.lemmas.Bool.{cond-true, cond-false, eq-eqb, le-leb, lt-leb, and_from, and_right, cases_lt}
-use Rattle.refusals.specs.declared.Refusal.TheVariants.{FileTooShort}
+use Rattle.std.proofs.lemmas.Bool.{cond-true, eq-eqb, le-leb, and_from, cases_lt}
 use Rattle.checkfile.specs.declared.code.Code.{Code}
-use Rattle.checkfile.specs.declared.kind.Kind.{Kind}
-use Rattle.checkfile.specs.declared.kind.Kind.TheVariants.{Plain, Weight, Cost}
 use Rattle.checkfile.specs.declared.rule.FileRule.{FileRule}
-use Rattle.checkfile.specs.Contents.{content_of, content_at, write_answer, buffer_after, ReadsBack}
-use Rattle.checkfile.specs.Layout.{Put, Sound, CostsOf, layout, costs_under}
+use Rattle.checkfile.specs.declared.rule.FileRule.TheVariants.{Plain, Weight, Cost}
+use Rattle.checkfile.specs.Contents.{content_of, content_at, buffer_after, ReadsBack}
+use Rattle.checkfile.specs.Layout.{Put, Sound, CostsOf, layout}
+use Rattle.checkfile.specs.Rules.{kind_of_rule, places_of, costs_of}
 use Rattle.checkfile.specs.Tests.{first_refusal, tests}
 use Rattle.checkfile.proofs.Layouts.{layouts_accepted}
 use Rattle.checkfile.proofs.Puts.{put_first}
 
--- the costs of a rule with as many places as the code
-sound_costs : (kind : Kind) (n : ℕ) (costs : List ℕ) → n ≤ length costs → ((k : ℕ) → get_or costs k 0 ≤ 1000) → CostsOf kind n (costs_under kind (take n costs))
-sound_costs Plain n costs room limit = refl
-sound_costs Weight n costs room limit = refl
-sound_costs Cost n costs room limit = (long, λ k. at k (cases_lt k n))
+-- the costs of a rule
+sound_costs : (rule : FileRule) → CostsOf (kind_of_rule rule) (places_of rule) (costs_of rule)
+sound_costs (Plain rule) = refl
+sound_costs (Weight rule) = refl
+sound_costs (Cost rule) = (long, λ k. at k (cases_lt k rule.measure.places.n))
   where
-    long : length (take n costs) ≡ n
-    long = length-take-le n costs room
+    long : length (take rule.measure.places.n rule.measure.costs) ≡ rule.measure.places.n
+    long = length-take-le rule.measure.places.n rule.measure.costs (omega (arith, rule.measure.long, rule.measure.places.size.1))
 
-    at : (k : ℕ) → (k < n) ⊎ (n ≤ k) → get_or (take n costs) k 0 ≤ 1000
-    at k (inl h) = omega (arith, get_or-take n costs k 0 h, limit k)
-    at k (inr h) = omega (arith, get_or_past (take n costs) k 0 (omega (arith, long)))
+    at : (k : ℕ) → (k < rule.measure.places.n) ⊎ (rule.measure.places.n ≤ k) → get_or (take rule.measure.places.n rule.measure.costs) k 0 ≤ 1000
+    at k (inl h) = omega (arith, get_or-take rule.measure.places.n rule.measure.costs k 0 h, rule.measure.affordable k)
+    at k (inr h) = omega (arith, get_or_past (take rule.measure.places.n rule.measure.costs) k 0 (omega (arith, long)))
 
-module _ (code : Code) (rule : FileRule) (same : rule.n ≡ code.n) where
+module _ (code : Code) (rule : FileRule) (same : places_of rule ≡ code.sizes.places.n) where
   sound_content : Sound (content_of code rule)
   sound_content =
       let checks = code.checks in
-      let size = code.n * code.r in
+      let size = code.sizes.places.n * code.sizes.r in
       record {
-        least_q = code.counts.0;
-        most_q = code.counts.1;
-        least_n = code.places.0;
-        most_n = code.places.1;
-        least_r = code.rows.0;
-        most_r = code.rows.1;
-        table = length-take-le size checks (omega (arith, code.long, code.room));
+        least_q = code.sizes.limits.least_q;
+        most_q = code.sizes.limits.most_q;
+        least_n = code.sizes.limits.least_n;
+        most_n = code.sizes.limits.most_n;
+        least_r = code.sizes.limits.least_r;
+        most_r = code.sizes.limits.most_r;
+        table = length-take-le size checks (omega (arith, code.long, code.sizes.room));
         symbols = λ k h. omega (arith, get_or-take size checks k 0 h, code.symbols k h);
-        costs = subst (λ n. CostsOf rule.kind n (costs_under rule.kind (take rule.n rule.costs))) same
-            (sound_costs rule.kind rule.n rule.costs (omega (arith, rule.long, rule.places.1)) rule.affordable);
+        costs = subst (λ n. CostsOf (kind_of_rule rule) n (costs_of rule)) same (sound_costs rule);
       }
-
-  pub no_room : (before : List ℕ) → length before < length (layout (content_of code rule)) → (Err FileTooShort ≡ write_answer code rule (length before)) × (before ≡ buffer_after code rule before)
-  no_room before h =
-      let short = lt-leb (length (layout (content_of code rule))) (length before) h in (
-        sym (cond-true (eqb rule.n code.n) _ _ (eq-eqb rule.n code.n same) ∙ cond-false (leb (length (layout (content_of code rule))) (length before)) _ _ short),
-        sym (cond-false (eqb rule.n code.n && leb (length (layout (content_of code rule))) (length before)) _ _ (and_right (eqb rule.n code.n) _ short)),
-      )
 
   module _ (before after : List ℕ) (next : ℕ) (room : length (layout (content_of code rule)) ≤ length before) (put : Put (layout (content_of code rule)) 0 before after next) where
     long : next ≡ length (layout (content_of code rule))
@@ -58,14 +49,10 @@ module _ (code : Code) (rule : FileRule) (same : rule.n ≡ code.n) where
     fits : leb (length (layout (content_of code rule))) (length before) ≡ true
     fits = le-leb (length (layout (content_of code rule))) (length before) room
 
-    pub written_answer : Ok next ≡ write_answer code rule (length before)
-    written_answer =
-        ap Ok long ∙ sym (cond-true (eqb rule.n code.n) _ _ (eq-eqb rule.n code.n same) ∙ cond-true (leb (length (layout (content_of code rule))) (length before)) _ _ fits)
-
     pub written_buffer : after ≡ buffer_after code rule before
     written_buffer =
         put_first (layout (content_of code rule)) before after next put
-        ∙ sym (cond-true (eqb rule.n code.n && leb (length (layout (content_of code rule))) (length before)) _ _ (and_from _ _ (eq-eqb rule.n code.n same) fits))
+        ∙ sym (cond-true (eqb (places_of rule) code.sizes.places.n && leb (length (layout (content_of code rule))) (length before)) _ _ (and_from _ _ (eq-eqb (places_of rule) code.sizes.places.n same) fits))
 
     pub written_back : ReadsBack code rule after (Ok next)
     written_back =

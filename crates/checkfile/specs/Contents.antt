@@ -6,6 +6,7 @@ use Rattle.refusals.specs.declared.Refusal.{Refusal}
 use Rattle.refusals.specs.declared.Refusal.TheVariants.{RuleOfOtherCode, FileTooShort}
 use Rattle.checkfile.specs.declared.code.Code.{Code}
 use Rattle.checkfile.specs.declared.rule.FileRule.{FileRule}
+use Rattle.checkfile.specs.Rules.{kind_of_rule, places_of, costs_of}
 use Rattle.checkfile.specs.Symbols.{check_at}
 use Rattle.checkfile.specs.declared.kind.Kind.TheVariants.{Plain}
 use Rattle.checkfile.specs.Layout.{Content, Sound, layout, cost_field, kind_of, costs_under}
@@ -13,17 +14,17 @@ use Rattle.checkfile.specs.Tests.{first_refusal, tests, pair, count_at, places_a
 
 -- a code as a check table
 abbrev pub checks_of : Code → Checks
-checks_of code = record { n = code.n; r = code.r; check = check_at code.n code.r code.checks }
+checks_of code = record { n = code.sizes.places.n; r = code.sizes.r; check = check_at code.sizes.places.n code.sizes.r code.checks }
 
 -- the content that a code and a rule give a file
 abbrev pub content_of : Code → FileRule → Content
 content_of code rule = record {
-  q = code.q;
-  n = code.n;
-  r = code.r;
-  checks = take (code.n * code.r) code.checks;
-  kind = rule.kind;
-  costs = costs_under rule.kind (take rule.n rule.costs);
+  q = code.sizes.q;
+  n = code.sizes.places.n;
+  r = code.sizes.r;
+  checks = take (code.sizes.places.n * code.sizes.r) code.checks;
+  kind = kind_of_rule rule;
+  costs = costs_of rule;
 }
 
 -- the content that an accepted file has
@@ -46,24 +47,24 @@ pub record Read (file : List ℕ) (code : Code) (rule : FileRule) (refused : Opt
   pub first_failing_test : refused ≡ first_refusal (tests file)
   pub accepted_is_a_layout : refused ≡ None → file ≡ layout (content_of code rule)
   pub accepted_is_sound : refused ≡ None → Sound (content_of code rule)
-  pub accepted_rule_fits : refused ≡ None → rule.n ≡ code.n
+  pub accepted_rule_fits : refused ≡ None → places_of rule ≡ code.sizes.places.n
   pub every_layout_is_accepted : (c : Content) → Sound c → file ≡ layout c → (refused ≡ None) × (content_of code rule ≡ c)
-  pub refused_is_blank : (e : Refusal) → refused ≡ Some e → (content_of code rule ≡ blank_content) × (rule.n ≡ 1)
+  pub refused_is_blank : (e : Refusal) → refused ≡ Some e → (content_of code rule ≡ blank_content) × (places_of rule ≡ 1)
 
 -- the field of a rule's costs
 abbrev pub rule_costs : FileRule → List ℕ
-rule_costs rule = cost_field rule.kind (costs_under rule.kind (take rule.n rule.costs))
+rule_costs rule = cost_field (kind_of_rule rule) (costs_of rule)
 
 -- What writing answers and leaves in the buffer: the layout in front of what lay past it, or a refusal and the buffer as it was.
 abbrev pub write_answer : Code → FileRule → ℕ → Result ℕ Refusal
 write_answer code rule room =
-    cond (rule.n == code.n)
+    cond (places_of rule == code.sizes.places.n)
     (cond (nat_le (length (layout (content_of code rule))) room) (Ok (length (layout (content_of code rule)))) (Err FileTooShort))
     (Err RuleOfOtherCode)
 
 abbrev pub buffer_after : Code → FileRule → List ℕ → List ℕ
 buffer_after code rule before =
-    cond (rule.n == code.n && nat_le (length (layout (content_of code rule))) (length before))
+    cond (places_of rule == code.sizes.places.n && nat_le (length (layout (content_of code rule))) (length before))
     (layout (content_of code rule) ++ drop (length (layout (content_of code rule))) before)
     before
 

@@ -1,6 +1,11 @@
 pub mod Symbols
 pub mod Layout
+pub mod Kinds
 pub mod Tests
+pub mod Steps
+pub mod Writes
+pub mod Making
 pub mod Contents
+pub mod Rules
 pub mod Ranks
 pub mod Lawful

@@ -1,5 +1,5 @@
 -- The tests that a file must pass, in their order, each with the refusal of a file that fails it.
-use Rattle.std.specs.Prelude.{◌≡◌, ℕ, ◌+◌, ◌-◌, ◌*◌, ◌^◌, ◌<◌, ◌≤◌, Bool, cond, ◌&&◌, List, [], ◌∷◌, ◌++◌, map, length, take, drop, Some, None, Ok, Err, Option, Result, ◌==◌, nat_le, nat_lt, slice_index}
+use Rattle.std.specs.Prelude.{◌≡◌, ℕ, ◌+◌, ◌-◌, ◌*◌, ◌^◌, ◌≤◌, Bool, cond, ◌&&◌, List, [], ◌∷◌, ◌++◌, map, length, Some, None, Option, Result, MatchResult, ◌==◌, nat_le, nat_lt, slice_index}
 use Rattle.std.specs.List.{range_with_len}
 use Rattle.refusals.specs.declared.Refusal.{Refusal}
 use Rattle.checkfile.specs.declared.kind.Kind.{Kind}
@@ -55,6 +55,13 @@ module _ (file : List ℕ) where
   abbrev pub check_tests : ℕ → ℕ → ℕ → List Test
   check_tests at q size = field_tests at 3 size ++ symbol_tests at q size
 
+  -- a check table: the fields of its sizes, and that of its symbols
+  abbrev pub sizes_tests : ℕ → List Test
+  sizes_tests at = count_tests at ++ size_tests (at + 4) (byte (at + 3))
+
+  abbrev pub table_tests : ℕ → List Test
+  table_tests at = sizes_tests at ++ check_tests (at + 4 + 5) (byte (at + 3)) (byte (at + 4 + 3) * byte (at + 4 + 4))
+
   abbrev pub rule_tests : ℕ → List Test
   rule_tests at = field_tests at 4 1 ++ (test (is_kind (byte (at + 3))) (RuleByte (at + 3)) ∷ [])
 
@@ -72,6 +79,10 @@ module _ (file : List ℕ) where
   tail_tests at n Plain = end_tests at
   tail_tests at n Weight = end_tests at
   tail_tests at n Cost = cost_tests at n ++ end_tests (at + 3 + 2 * n)
+
+  -- a rule of n places, and what follows it
+  abbrev pub last_tests : ℕ → ℕ → List Test
+  last_tests at n = rule_tests at ++ tail_tests (at + 4) n (kind_of (byte (at + 3)))
 
   -- where things stand in a file that is well laid out so far
   abbrev pub count_at : ℕ
@@ -102,19 +113,7 @@ module _ (file : List ℕ) where
 
 -- What a step of the reader answers: where its tests are passed a value of which P holds, else the refusal of the first that is not.
 abbrev pub Judged : {T : Type 0} → List Test → (T → Type 0) → Result T Refusal → Type 0
-Judged tests P (Ok x) = (first_refusal tests ≡ None) × P x
-Judged tests P (Err refusal) = first_refusal tests ≡ Some refusal
-
--- the bytes of the costs that follow a rule, none unless it is by cost
-pub record CostBytesAt (file : List ℕ) (at n : ℕ) (bytes : List ℕ) : Type 0 where
-  pub part : bytes ≡ take (2 * n) (drop (at + 3) file)
-  pub long : length bytes ≡ 2 * n
-  pub affordable : (k : ℕ) → k < n → pair bytes (2 * k) ≤ 1000
-
-abbrev pub CostBytes : List ℕ → ℕ → ℕ → Kind → List ℕ → Type 0
-CostBytes file at n Plain bytes = Unit {0}
-CostBytes file at n Weight bytes = Unit {0}
-CostBytes file at n Cost bytes = CostBytesAt file at n bytes
+Judged tests P r = MatchResult r (λ x. (first_refusal tests ≡ None) × P x) (λ refusal. first_refusal tests ≡ Some refusal)
 
 -- the limits of a check table
 pub record Limits (q n r : ℕ) : Type 0 where
@@ -124,15 +123,3 @@ pub record Limits (q n r : ℕ) : Type 0 where
   pub most_n : n * (q - 1) ≤ 24
   pub least_r : 1 ≤ r
   pub most_r : q ^ r ≤ 256
-
--- what an accepted file says, with its lists still in the file
-pub record Said (file : List ℕ) (q n r : ℕ) (checks : List ℕ) (kind : Kind) (costs : List ℕ) : Type 0 where
-  pub count : q ≡ count_at file
-  pub places : n ≡ places_at file
-  pub rows : r ≡ rows_at file
-  pub limits : Limits q n r
-  pub part : checks ≡ take (n * r) (drop 12 file)
-  pub long : length checks ≡ n * r
-  pub symbols : (k : ℕ) → k < n * r → slice_index checks k < q
-  pub rule : kind ≡ kind_of (rule_at file)
-  pub prices : CostBytes file (cost_offset file) n kind costs

@@ -1,74 +1,65 @@
 // A check table: for each of n places, r check symbols below q. Only a reader makes one.
-ghost use Rattle.std.specs.Prelude.{◌≡◌, ℕ, ◌-◌, ◌*◌, ◌^◌, ◌<◌, ◌≤◌, length, take, slice_index};
+ghost use Rattle.std.specs.Prelude.{◌≡◌, ℕ, ◌*◌, ◌<◌, ◌≤◌, length, take, slice_index};
 ghost use Rattle.checkfile.specs.Symbols.{check_at};
-ghost use Rattle.checkfile.specs.Tests.{Limits};
 
+use crate::lent::LentTable;
+use crate::sizes::Sizes;
 use rules::lists::padded;
 
 #[derive(Clone, Copy)]
 pub struct Code {
-    pub(crate) q: u8,
-    pub(crate) n: usize,
-    pub(crate) r: usize,
-    // The most that any sizes within the limits have: 24 places of 8.
+    pub(crate) sizes: Sizes,
+    // In fixed memory, for a host with no heap: the most that any sizes have, 24 places of 8.
     pub(crate) checks: [u8; 192],
-    ghost counts: { (2 ≤ q) × (q ≤ 4) },
-    ghost places: { (1 ≤ n) × (n * (q - 1) ≤ 24) },
-    ghost rows: { (1 ≤ r) × (q ^ r ≤ 256) },
     ghost long: { length checks ≡ 192 },
-    ghost room: { n * r ≤ 192 },
-    ghost symbols: { (k : ℕ) → k < n * r → slice_index checks k < q },
+    ghost symbols: { (k : ℕ) → k < sizes.places.n * sizes.r → slice_index checks k < sizes.q },
     // So that codes with the same table are equal.
-    ghost past: { (k : ℕ) → n * r ≤ k → slice_index checks k ≡ 0 },
+    ghost past: { (k : ℕ) → sizes.places.n * sizes.r ≤ k → slice_index checks k ≡ 0 },
 }
 
 impl Code {
-    pub(crate) fn new(q: u8, n: usize, r: usize, symbols: &[u8]) -> Code
-        requires limits { Limits q n r }
-        requires long { length symbols.now ≡ n * r }
-        requires below { (k : ℕ) → k < n * r → slice_index symbols.now k < q }
-        ensures { (result.q ≡ q) × (result.n ≡ n) × (result.r ≡ r) × (take (n * r) result.checks ≡ symbols.now) }
+    pub(crate) fn new(table: &LentTable<'_>) -> Code
+        ensures { (result.sizes ≡ table.now.sizes) × (take (result.sizes.places.n * result.sizes.r) result.checks ≡ table.now.symbols.now) }
     {
         Code {
-            q,
-            n,
-            r,
-            checks: padded(0, symbols),
+            sizes: table.sizes,
+            checks: padded(0, table.symbols),
         }
     }
 
     pub fn q(&self) -> u8
-        ensures { result ≡ self.now.q }
+        ensures { result ≡ self.now.sizes.q }
     {
-        self.q
+        self.sizes.q
     }
 
     pub fn n(&self) -> usize
-        ensures { result ≡ self.now.n }
+        ensures { result ≡ self.now.sizes.places.n }
     {
-        self.n
+        self.sizes.places.get()
     }
 
     pub fn r(&self) -> usize
-        ensures { result ≡ self.now.r }
+        ensures { result ≡ self.now.sizes.r }
     {
-        self.r
+        usize::from(self.sizes.r)
     }
 
     // All check symbols, those of the first place first.
     pub(crate) fn symbols(&self) -> &[u8]
-        ensures value { result.now ≡ take (self.now.n * self.now.r) self.now.checks }
-        ensures len { length result.now ≡ self.now.n * self.now.r }
+        ensures value { result.now ≡ take (self.now.sizes.places.n * self.now.sizes.r) self.now.checks }
+        ensures len { length result.now ≡ self.now.sizes.places.n * self.now.sizes.r }
     {
-        &self.checks[0..self.n * self.r]
+        &self.checks[0..self.sizes.table()]
     }
 
     // Check symbol j of a place, both counted from 0; 0 where there is none.
     pub fn check(&self, place: usize, j: usize) -> u8
-        ensures { result ≡ check_at self.now.n self.now.r self.now.checks place j }
+        ensures { result ≡ check_at self.now.sizes.places.n self.now.sizes.r self.now.checks place j }
     {
-        if place < self.n && j < self.r {
-            self.checks[place * self.r + j]
+        let r = self.r();
+        if place < self.n() && j < r {
+            self.checks[place * r + j]
         } else {
             0
         }

@@ -4,9 +4,10 @@
 pub mod code;
 mod fields;
 pub mod kind;
-pub mod ranking;
+mod lent;
 pub mod reading;
 pub mod rule;
+mod sizes;
 #[cfg(test)]
 mod tests;
 pub mod writing;

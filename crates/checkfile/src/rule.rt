@@ -1,94 +1,107 @@
-// The rule that a file names: its kind, its length and, for costs, one number a place.
-ghost use Rattle.std.specs.Prelude.{◌≡◌, ℕ, ◌*◌, ◌<◌, ◌≤◌, map, length, take, replicate, slice_index};
-ghost use Rattle.std.specs.List.{range_with_len};
-ghost use Rattle.checkfile.specs.Tests.{pair};
+// The rule that a file names, as a rule like any other.
+ghost use Rattle.std.specs.Prelude.{◌≡◌, refl};
+ghost use Rattle.rules.specs.Orders.{ranks_orders};
+ghost use Rattle.checkfile.specs.Rules.{kind_of_rule, places_of, cost_of_place};
+ghost use Rattle.checkfile.specs.Ranks.{ranks_of};
+ghost use Rattle.checkfile.specs.Lawful.{file_ranks};
+ghost use Rattle.checkfile.specs.Making.{CostsAre, MadeOf};
 
-use crate::fields::pair_at;
 use crate::kind::Kind;
+use crate::lent::{LentCosts, LentRule, numbers};
+use queue::ranking::Ranking;
+use rules::basic::{Plain, Weight};
+use rules::cost::Cost;
+use rules::rule::Rule;
 
+// An enum and no `dyn Rule`, since reading hands it out.
 #[derive(Clone, Copy)]
-pub struct FileRule {
-    pub(crate) kind: Kind,
-    pub(crate) n: usize,
-    pub(crate) costs: [u16; 24],
-    ghost places: { (1 ≤ n) × (n ≤ 24) },
-    ghost long: { length costs ≡ 24 },
-    ghost affordable: { (k : ℕ) → slice_index costs k ≤ 1000 },
-    // So that rules that cost the same are equal.
-    ghost past: { (k : ℕ) → n ≤ k → slice_index costs k ≡ 0 },
-}
-
-// The costs of n places, two bytes each, and 0 past them.
-fn costs_from(n: usize, bytes: &[u8]) -> [u16; 24]
-    requires places { n ≤ 24 }
-    requires long { length bytes.now ≡ 2 * n }
-    ensures len { length result ≡ 24 }
-    ensures items { (k : ℕ) → k < n → slice_index result k ≡ pair bytes.now (2 * k) }
-    ensures past { (k : ℕ) → n ≤ k → slice_index result k ≡ 0 }
-{
-    let mut costs = [0; 24];
-    for k in 0..n {
-        costs[k] = pair_at(bytes, 2 * k);
-    }
-    costs
+pub enum FileRule {
+    Plain(Plain),
+    Weight(Weight),
+    Cost(Cost),
 }
 
 impl FileRule {
-    // A rule by cost, with the costs as a file has them.
-    fn by_cost(n: usize, bytes: &[u8]) -> FileRule
-        requires places { (1 ≤ n) × (n ≤ 24) }
-        requires long { length bytes.now ≡ 2 * n }
-        requires prices { (k : ℕ) → k < n → pair bytes.now (2 * k) ≤ 1000 }
-        ensures { (result.kind ≡ Kind.Cost) × (result.n ≡ n) × (take n result.costs ≡ map (λ k. pair bytes.now (2 * k)) (range_with_len 0 n)) }
+    // The rule with its costs out of the file.
+    pub(crate) fn new(rule: &LentRule<'_>) -> FileRule
+        ensures { MadeOf rule.now result }
     {
-        FileRule {
-            kind: Kind::Cost,
-            n,
-            costs: costs_from(n, bytes),
-        }
-    }
-
-    // A rule that needs no costs.
-    fn free(kind: Kind, n: usize) -> FileRule
-        requires { (1 ≤ n) × (n ≤ 24) }
-        ensures { (result.kind ≡ kind) × (result.n ≡ n) × (result.costs ≡ replicate 24 0) }
-    {
-        FileRule {
-            kind,
-            n,
-            costs: [0; 24],
-        }
-    }
-
-    // The rule of that kind; the bytes are its costs where it has any.
-    pub(crate) fn new(kind: Kind, n: usize, bytes: &[u8]) -> FileRule
-        requires places { (1 ≤ n) × (n ≤ 24) }
-        requires long { kind ≡ Kind.Cost → length bytes.now ≡ 2 * n }
-        requires prices { kind ≡ Kind.Cost → (k : ℕ) → k < n → pair bytes.now (2 * k) ≤ 1000 }
-        ensures { (result.kind ≡ kind) × (result.n ≡ n) × (kind ≡ Kind.Cost → take n result.costs ≡ map (λ k. pair bytes.now (2 * k)) (range_with_len 0 n)) }
-    {
-        match kind {
-            Kind::Cost => FileRule::by_cost(n, bytes),
-            Kind::Plain | Kind::Weight => FileRule::free(kind, n),
+        match rule {
+            LentRule::Plain(places) => FileRule::Plain(Plain::from(*places)),
+            LentRule::Weight(places) => FileRule::Weight(Weight::from(*places)),
+            LentRule::Cost(costs) => FileRule::Cost(priced(costs)),
         }
     }
 
     pub fn kind(&self) -> Kind
-        ensures { result ≡ self.now.kind }
+        ensures { result ≡ kind_of_rule self.now }
     {
-        self.kind
+        match self {
+            FileRule::Plain(_) => Kind::Plain,
+            FileRule::Weight(_) => Kind::Weight,
+            FileRule::Cost(_) => Kind::Cost,
+        }
     }
 
     pub fn n(&self) -> usize
-        ensures { result ≡ self.now.n }
+        ensures { result ≡ places_of self.now }
     {
-        self.n
+        self.places()
     }
 
     // The cost of a place, counted from 0; 0 where there is none.
     pub fn cost(&self, place: usize) -> u16
-        ensures { result ≡ slice_index self.now.costs place }
+        ensures { result ≡ cost_of_place self.now place }
     {
-        if place < self.n { self.costs[place] } else { 0 }
+        match self {
+            FileRule::Plain(_) | FileRule::Weight(_) => 0,
+            FileRule::Cost(rule) => rule.cost(place),
+        }
+    }
+}
+
+// A rule by cost, with the costs that a file has.
+fn priced(costs: &LentCosts<'_>) -> Cost
+    ensures { CostsAre costs.now result }
+{
+    let n = costs.places.get();
+    Cost::new(n, &numbers(costs.bytes)[0..n]).rule
+}
+
+impl Ranking<u64> for FileRule {
+    ghost before = { λ s. (ranks_of s).before };
+
+    ghost orders = { λ s. ranks_orders _ (file_ranks s) };
+
+    fn before(&self, u: u64, v: u64) -> bool {
+        match self {
+            FileRule::Plain(rule) => rule.before(u, v),
+            FileRule::Weight(rule) => rule.before(u, v),
+            FileRule::Cost(rule) => rule.before(u, v),
+        }
+    }
+}
+
+impl Rule for FileRule {
+    ghost ranks = { ranks_of };
+
+    ghost lawful = { file_ranks };
+
+    ghost agrees = { λ s u v. refl };
+
+    fn places(&self) -> usize {
+        match self {
+            FileRule::Plain(rule) => rule.places(),
+            FileRule::Weight(rule) => rule.places(),
+            FileRule::Cost(rule) => rule.places(),
+        }
+    }
+
+    fn is_by_weight(&self) -> bool {
+        match self {
+            FileRule::Plain(rule) => rule.is_by_weight(),
+            FileRule::Weight(rule) => rule.is_by_weight(),
+            FileRule::Cost(rule) => rule.is_by_weight(),
+        }
     }
 }

@@ -2,59 +2,82 @@
 ghost use Rattle.std.specs.Prelude.{◌≡◌, ℕ, ◌+◌, ◌*◌, ◌<◌, ◌≤◌, [], ◌∷◌, ◌++◌, length, take};
 ghost use Rattle.std.specs.List.{flat_map};
 ghost use Rattle.checkfile.specs.Contents.{content_of, rule_costs, write_answer, buffer_after, ReadsBack};
+ghost use Rattle.checkfile.specs.Rules.{kind_of_rule};
 ghost use Rattle.checkfile.specs.Layout.{Put, field, layout, kind_byte, two_bytes};
 
 use crate::code::Code;
-use crate::kind::Kind;
 use crate::rule::FileRule;
 use refusals::Refusal;
+use rules::rule::Rule;
 
-fn put(buffer: &mut [u8], at: usize, bytes: &[u8]) -> usize
-    requires { at + length bytes.now ≤ length buffer.old }
-    ensures { Put bytes.now at buffer.old buffer.new result }
-{
-    let next = at + bytes.len();
-    buffer[at..next].copy_from_slice(bytes);
-    next
+// A lent buffer, filled from its front: as the reader has it, with the offset where it goes on.
+#[derive(Drop)]
+struct Writer<'a> {
+    buffer: &'a mut [u8],
+    offset: usize,
 }
 
-// A tag, the length with its high byte first, and the contents.
-fn put_field(buffer: &mut [u8], at: usize, tag: u8, contents: &[u8]) -> usize
-    requires room { at + 3 + length contents.now ≤ length buffer.old }
-    requires short { length contents.now < 65536 }
-    ensures { Put (field tag contents.now) at buffer.old buffer.new result }
-{
-    let size = contents.len();
-    let next = put(buffer, at, &[tag, (size / 256) as u8, (size % 256) as u8]);
-    put(buffer, next, contents)
-}
+impl Writer<'_> {
+    ghost use Rattle.checkfile.specs.Writes.{HasRoom, Writes};
 
-// The costs as a file has them, and 0 past them.
-fn cost_bytes(rule: &FileRule) -> [u8; 48]
-    ensures len { length result ≡ 48 }
-    ensures front { take (2 * rule.now.n) result ≡ flat_map two_bytes (take rule.now.n rule.now.costs) }
-{
-    let mut bytes = [0; 48];
-    for k in 0..rule.n {
-        let cost = rule.costs[k];
-        bytes[2 * k] = (cost / 256) as u8;
-        bytes[2 * k + 1] = (cost % 256) as u8;
+    fn put(&mut self, bytes: &[u8])
+        requires { HasRoom self.old bytes.now }
+        ensures { Writes self.old self.new bytes.now }
+    {
+        let next = self.offset + bytes.len();
+        self.buffer[self.offset..next].copy_from_slice(bytes);
+        self.offset = next;
     }
-    bytes
-}
 
-// The rule's field, and that of its costs where it has any.
-fn put_rule(buffer: &mut [u8], at: usize, rule: &FileRule) -> usize
-    requires { at + 4 + length (rule_costs rule.now) ≤ length buffer.old }
-    ensures { Put (field 4 (kind_byte rule.now.kind ∷ []) ++ rule_costs rule.now) at buffer.old buffer.new result }
-{
-    let at = put_field(buffer, at, 4, &[rule.kind.byte()]);
-    match rule.kind {
-        Kind::Plain | Kind::Weight => at,
-        Kind::Cost => {
-            let bytes = cost_bytes(rule);
-            put_field(buffer, at, 5, &bytes[0..2 * rule.n])
+    // A tag, and the length of what follows it with its high byte first.
+    fn head(&mut self, tag: u8, size: u16)
+        requires { HasRoom self.old (tag ∷ two_bytes size) }
+        ensures { Writes self.old self.new (tag ∷ two_bytes size) }
+    {
+        let [hi, lo] = size.to_be_bytes();
+        self.put(&[tag, hi, lo]);
+    }
+
+    fn field(&mut self, tag: u8, contents: &[u8])
+        requires room { HasRoom self.old (field tag contents.now) }
+        requires short { length contents.now < 65536 }
+        ensures { Writes self.old self.new (field tag contents.now) }
+    {
+        self.head(tag, contents.len() as u16);
+        self.put(contents);
+    }
+
+    fn costs(&mut self, costs: &[u16])
+        requires { HasRoom self.old (flat_map two_bytes costs.now) }
+        ensures { Writes self.old self.new (flat_map two_bytes costs.now) }
+    {
+        for cost in costs {
+            self.put(&cost.to_be_bytes());
         }
+    }
+
+    // The rule's field, and that of its costs where it has any.
+    fn rule(&mut self, rule: &FileRule)
+        requires { HasRoom self.old (field 4 (kind_byte (kind_of_rule rule.now) ∷ []) ++ rule_costs rule.now) }
+        ensures { Writes self.old self.new (field 4 (kind_byte (kind_of_rule rule.now) ∷ []) ++ rule_costs rule.now) }
+    {
+        self.field(4, &[u8::from(rule.kind())]);
+        if let FileRule::Cost(rule) = rule {
+            let costs = rule.costs();
+            self.head(5, 2 * costs.len() as u16);
+            self.costs(costs);
+        }
+    }
+
+    // The whole file.
+    fn file(&mut self, code: &Code, rule: &FileRule)
+        requires { HasRoom self.old (layout (content_of code.now rule.now)) }
+        ensures { Writes self.old self.new (layout (content_of code.now rule.now)) }
+    {
+        self.field(1, &[code.sizes.q]);
+        self.field(2, &[code.sizes.places.get() as u8, code.sizes.r]);
+        self.field(3, code.symbols());
+        self.rule(rule);
     }
 }
 
@@ -62,21 +85,20 @@ fn costs_length(rule: &FileRule) -> usize
     ensures value { result ≡ length (rule_costs rule.now) }
     ensures bound { result ≤ 51 }
 {
-    match rule.kind {
-        Kind::Plain | Kind::Weight => 0,
-        Kind::Cost => 3 + 2 * rule.n,
+    match rule {
+        FileRule::Plain(_) | FileRule::Weight(_) => 0,
+        FileRule::Cost(rule) => 3 + 2 * rule.places(),
     }
 }
 
-// The whole file, where there is room for it.
-fn put_file(buffer: &mut [u8], code: &Code, rule: &FileRule) -> usize
+// The whole file at the front of a buffer with room for it; answers its length.
+fn put_file(code: &Code, rule: &FileRule, buffer: &mut [u8]) -> usize
     requires { length (layout (content_of code.now rule.now)) ≤ length buffer.old }
     ensures { Put (layout (content_of code.now rule.now)) 0 buffer.old buffer.new result }
 {
-    let at = put_field(buffer, 0, 1, &[code.q]);
-    let at = put_field(buffer, at, 2, &[code.n as u8, code.r as u8]);
-    let at = put_field(buffer, at, 3, code.symbols());
-    put_rule(buffer, at, rule)
+    let mut writer = Writer { buffer, offset: 0 };
+    writer.file(code, rule);
+    writer.offset
 }
 
 // The file of a code and a rule, at the front of the buffer; answers its length.
@@ -85,11 +107,11 @@ pub fn write(code: &Code, rule: &FileRule, buffer: &mut [u8]) -> Result<usize, R
     ensures buffer { buffer.new ≡ buffer_after code.now rule.now buffer.old }
     ensures back { ReadsBack code.now rule.now buffer.new result }
 {
-    if rule.n != code.n {
+    if rule.n() != code.n() {
         return Err(Refusal::RuleOfOtherCode);
     }
-    if buffer.len() < 16 + code.n * code.r + costs_length(rule) {
+    if buffer.len() < 16 + code.sizes.table() + costs_length(rule) {
         return Err(Refusal::FileTooShort);
     }
-    Ok(put_file(buffer, code, rule))
+    Ok(put_file(code, rule, buffer))
 }

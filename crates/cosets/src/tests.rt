@@ -1,5 +1,5 @@
 // Check values over bits and quads.
-use crate::checks::{check_number, check_value, is_code_word};
+use crate::checks::Checks;
 use checkfile::reading::read;
 use marks::alphabet::{Bits, Quads};
 use marks::mark::Mark;
@@ -13,13 +13,17 @@ fn six_places_of_bits(rt: HostRuntime) -> Result<(), Fail> {
     ];
     let reading = read(&file);
     assert_eq!(rt; reading.refused, None);
-    let mark = Mark::read(&Bits, 6, &[1, 0, 0, 0, 1, 0])?;
-    assert_eq!(rt; check_value(&Bits, &reading.code, mark, 3), 1);
-    assert_eq!(rt; check_value(&Bits, &reading.code, mark, 4), 0);
-    assert_eq!(rt; check_number(&Bits, &reading.code, mark), 15);
-    assert!(rt; !is_code_word(&Bits, &reading.code, mark));
-    let word = Mark::read(&Bits, 6, &[1, 1, 0, 1, 1, 0])?;
-    assert!(rt; is_code_word(&Bits, &reading.code, word));
+    let checks = Checks {
+        alphabet: &Bits,
+        code: &reading.code,
+    };
+    let mark = Mark::read::<Bits>(6, &[1, 0, 0, 0, 1, 0])?;
+    assert_eq!(rt; checks.value(mark, 3), 1);
+    assert_eq!(rt; checks.value(mark, 4), 0);
+    assert_eq!(rt; checks.number(mark), 15);
+    assert!(rt; !checks.is_code_word(mark));
+    let word = Mark::read::<Bits>(6, &[1, 1, 0, 1, 1, 0])?;
+    assert!(rt; checks.is_code_word(word));
     Ok(())
 }
 
@@ -27,9 +31,13 @@ fn six_places_of_bits(rt: HostRuntime) -> Result<(), Fail> {
 fn two_places_of_quads(rt: HostRuntime) -> Result<(), Fail> {
     let reading = read(&[1, 0, 1, 4, 2, 0, 2, 2, 1, 3, 0, 2, 1, 2, 4, 0, 1, 2]);
     assert_eq!(rt; reading.refused, None);
-    let mark = Mark::read(&Quads, 2, &[3, 3])?;
-    assert_eq!(rt; check_number(&Quads, &reading.code, mark), 2);
-    let word = Mark::read(&Quads, 2, &[1, 3])?;
-    assert!(rt; is_code_word(&Quads, &reading.code, word));
+    let checks = Checks {
+        alphabet: &Quads,
+        code: &reading.code,
+    };
+    let mark = Mark::read::<Quads>(2, &[3, 3])?;
+    assert_eq!(rt; checks.number(mark), 2);
+    let word = Mark::read::<Quads>(2, &[1, 3])?;
+    assert!(rt; checks.is_code_word(word));
     Ok(())
 }

@@ -13,8 +13,8 @@ use Rattle.leaders.proofs.Leaders.{at_mark, at_leader, leader_at, leader_mark, l
 use Rattle.marks.specs.Reading.{reading}
 use Rattle.marks.specs.declared.mark.Mark.{Mark}
 use Rattle.refusals.specs.declared.Refusal.{Refusal}
-use Rattle.refusals.specs.declared.Refusal.TheVariants.{NotSettled, OutOfRange}
-use Rattle.table.proofs.Finding.{read_sound, found_with_buffers}
+use Rattle.refusals.specs.declared.Refusal.TheVariants.{Buffer, NotSettled, OutOfRange}
+use Rattle.table.proofs.Finding.{read_sound}
 use Rattle.table.specs.Answers.{grow_answer, leader_answer, settled_number, found_of, written, correction_of, corrected_of}
 use Rattle.history.specs.Histories.{answered, answer_by, first_by, second_by, found, Made}
 use Rattle.history.specs.Promises.{LeaderAt, SoundInput, settled_by, Promised}
@@ -39,6 +39,12 @@ refused_was (Err y) x e = cc
 mark_was : (T : Scheme) (k : ℕ) (r : Result Mark Refusal) (first second m : ℕ) → found_of T k r first second ≡ Ok m → (mark : Mark) × (Ok mark ≡ r)
 mark_was T k (Ok mark) first second m e = (mark, refl)
 mark_was T k (Err x) first second m e = absurd (never cc)
+
+-- buffers of the right length leave the answer to the look-up
+found_with_buffers : (T : Scheme) (k : ℕ) (mark : Mark) (first second : ℕ) (r : Result ℕ Refusal) → first ≡ T.checks.n → second ≡ T.checks.n → r ≡ settled_number T k mark.number → r ≡ found_of T k (Ok mark) first second
+found_with_buffers T k mark first second r e e' h =
+    h ∙ sym (cond-true (eqb first T.checks.n && eqb second T.checks.n) (settled_number T k mark.number) (Err Buffer)
+    (and_from (eqb first T.checks.n) (eqb second T.checks.n) (eq-eqb first T.checks.n e) (eq-eqb second T.checks.n e')))
 
 written_ok : (T : Scheme) (r : Result ℕ Refusal) (m u : ℕ) (before : List ℕ) → r ≡ Ok m → written T r u before ≡ bytes_of T.checks.n u
 written_ok T r m u before e = ap (λ x. written T x u before) e

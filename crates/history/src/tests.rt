@@ -6,6 +6,7 @@ use marks::alphabet::{Bits, Thirds};
 use refusals::Refusal;
 use std::alloc::{AllocError, Global};
 use std::test::Fail;
+use table::table::{Opened, Table};
 
 const S: [u8; 46] = [
     1, 0, 1, 2, 2, 0, 2, 6, 5, 3, 0, 30, 1, 1, 0, 0, 0, 1, 0, 0, 1, 0, 1, 0, 0, 0, 1, 0, 1, 1, 0,
@@ -99,5 +100,28 @@ fn an_alphabet_of_other_symbols_opens_nothing(rt: HostRuntime) -> Result<(), Fai
         Err(Refusal::OtherCode)
     );
     assert_eq!(rt; entries[0].answer, None);
+    Ok(())
+}
+
+#[test]
+fn a_table_over_another_alphabet_stays_empty(rt: HostRuntime) -> Result<(), Fail> {
+    let reading = read(&S);
+    let Opened { mut table, refused } = Table::open(reading.code, reading.rule, Thirds);
+    let mut first = [9; 6];
+    let mut second = [8; 6];
+    assert_eq!(rt; refused, Some(Refusal::OtherCode));
+    let mut scratch = [7; 512];
+    assert_eq!(rt; table.grow(1, &mut scratch), Err(Refusal::OtherCode));
+    assert_eq!(rt; table.grow(257, &mut scratch), Err(Refusal::OtherCode));
+    assert_eq!(rt; table.grow(1, &mut []), Err(Refusal::OtherCode));
+    assert_eq!(rt; scratch, [7; 512]);
+    assert_eq!(rt; table.tally(), (0, false));
+    assert_eq!(rt; table.leader(1), Err(Refusal::OutOfRange));
+    assert_eq!(rt;
+        table.find(&[1, 1, 1, 1, 2, 2], &mut first, &mut second),
+        Err(Refusal::NotSettled)
+    );
+    assert_eq!(rt; first, [9; 6]);
+    assert_eq!(rt; second, [8; 6]);
     Ok(())
 }

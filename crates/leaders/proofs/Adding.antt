@@ -1,7 +1,7 @@
 -- Marks as a group, and check numbers of sums and differences.
-use Rattle.std.proofs.Common.{◌≡◌, ℕ, zero, suc, ◌/◌, ◌%◌, ◌^◌, ◌<◌, ◌≤◌, cond, eqb, ◌⊎◌, sym, refl, ap, ◌∙◌, subst, ap₂, inl, inr, zero-le, mod-eq_of_lt, arith}
+use Rattle.std.proofs.Common.{◌≡◌, ℕ, zero, suc, ◌/◌, ◌%◌, ◌^◌, ◌<◌, ◌≤◌, cond, eqb, sym, refl, ap, ◌∙◌, subst, ap₂, mod-eq_of_lt, arith}
 use native.Mathlib.Nat.{add-mul-div_left, add-mul-mod_self_left, div-eq_of_lt}
-use Rattle.std.proofs.lemmas.Bool.{cases_eq, cases_lt, cond_both, cond-true, cond-false, eq-eqb, ne_eqb}
+use Rattle.std.proofs.lemmas.Bool.{cond_both}
 use Rattle.std.proofs.lemmas.Bool.Decides.{nat_tests}
 use Rattle.algebra.specs.Checks.{Checks, check_value, check_number}
 use Rattle.algebra.specs.Digits.{pack, digit}
@@ -9,8 +9,8 @@ use Rattle.algebra.specs.Marks.{Mark, put, blank, plus, minus, nonzero, weight}
 use Rattle.algebra.specs.Rankings.{filled}
 use Rattle.algebra.specs.Symbols.{Symbols, Lawful}
 use Rattle.algebra.proofs.Checks.{value_symbol, values_of_word, word_of_values}
-use Rattle.algebra.proofs.Digits.{digit_past, pack_below, pack_digit, pack_digits, pack_same, pack_zeros, total_same}
-use Rattle.algebra.proofs.Marks.{put_digit}
+use Rattle.algebra.proofs.Digits.{zero_digit, pack_below, pack_digit, pack_digits, pack_same, pack_zeros, total_same}
+use Rattle.algebra.proofs.Marks.{mark_by_digits, put_digit}
 use Rattle.leaders.specs.Leaders.{differing}
 
 -- numbers packed of digits below their base are equal only where the digits are
@@ -28,9 +28,6 @@ pack_apart b (suc n) f g p hf hg e (suc i) k =
     high h small = add-mul-div_left (h 0) (pack b n (λ i. h (suc i))) p ∙ omega (arith, div-eq_of_lt (small 0))
 
 module _ (S : Symbols) (lawful : Lawful S) where
-  pub mark_digit : (n u : ℕ) → Mark S n u → (i : ℕ) → digit u i < S.q
-  mark_digit n u mark i = mark.symbols i
-
   -- the laws of symbols that those of marks come from
   pub zero_symbol : 0 < S.q
   zero_symbol = omega (arith, lawful.least)
@@ -79,14 +76,7 @@ module _ (S : Symbols) (lawful : Lawful S) where
     packed_digit = pack_digit n f below_four
 
     pub packed_mark : Mark S n (pack 4 n f)
-    packed_mark = record { short = short; symbols = λ i. at i (cases_lt i n) }
-      where
-        short : pack 4 n f < 4 ^ n
-        short = pack_below 4 n f below_four
-
-        at : (i : ℕ) → (i < n) ⊎ (n ≤ i) → digit (pack 4 n f) i < S.q
-        at i (inl k) = omega (arith, packed_digit i k, small i)
-        at i (inr k) = omega (arith, digit_past n (pack 4 n f) i short k, lawful.least)
+    packed_mark = mark_by_digits S lawful n (pack 4 n f) (pack_below 4 n f below_four) (λ i h. omega (arith, packed_digit i h, small i))
 
   pub plus_digit : (n u v i : ℕ) → i < n → digit (plus S n u v) i ≡ S.sum (digit u i) (digit v i)
   plus_digit n u v = packed_digit n _ (λ i. lawful.sum_symbol (digit u i) (digit v i))
@@ -104,6 +94,9 @@ module _ (S : Symbols) (lawful : Lawful S) where
 
   pub put_mark : (n u i a : ℕ) → Mark S n u → a < S.q → Mark S n (put n u i a)
   put_mark n u i a mark h = packed_mark n _ (λ j. cond_both (eqb j i) a (digit u j) (λ x. x < S.q) (λ _. h) (λ _. mark.symbols j))
+
+  pub blank_mark : (n u i : ℕ) → Mark S n u → Mark S n (blank n u i)
+  blank_mark n u i mark = put_mark n u i 0 mark zero_symbol
 
   pub plus_mark : (n u v : ℕ) → Mark S n (plus S n u v)
   plus_mark n u v = packed_mark n _ (λ i. lawful.sum_symbol (digit u i) (digit v i))
@@ -135,7 +128,7 @@ module _ (S : Symbols) (lawful : Lawful S) where
 
   pub minus_apart : (n u v : ℕ) → Mark S n u → Mark S n v → minus S n u v ≡ 0 → u ≡ v
   minus_apart n u v mu mv e =
-      sym (minus_plus n u v mu mv) ∙ ap (λ c. plus S n c v) e ∙ plus_commutes n 0 v ∙ plus_none n v 0 mv (λ i _. digit_past 0 0 i (omega arith) (omega arith))
+      sym (minus_plus n u v mu mv) ∙ ap (λ c. plus S n c v) e ∙ plus_commutes n 0 v ∙ plus_none n v 0 mv (λ i _. zero_digit i)
 
   -- marks differ at as many places as their difference weighs
   pub differing_weight : (n u v : ℕ) → Mark S n u → Mark S n v → differing n u v ≡ weight n (minus S n u v)
@@ -143,32 +136,21 @@ module _ (S : Symbols) (lawful : Lawful S) where
 
   -- a put symbol changes the digit at its place alone, and only that mark has these digits
   put_here : (n u i a : ℕ) → a < S.q → i < n → digit (put n u i a) i ≡ a
-  put_here n u i a h k = put_digit n u i a (omega (arith, lawful.most)) i k ∙ cond-true (eqb i i) a (digit u i) (eq-eqb i i refl)
+  put_here n u i a h k = grind (arith, nat_tests, put_digit, lawful.most)
 
   put_there : (n u i a : ℕ) → a < S.q → (j : ℕ) → j < n → (j ≡ i → ⊥) → digit (put n u i a) j ≡ digit u j
-  put_there n u i a h j k other = put_digit n u i a (omega (arith, lawful.most)) j k ∙ cond-false (eqb j i) a (digit u j) (ne_eqb j i other)
+  put_there n u i a h j k other = grind (arith, nat_tests, put_digit, lawful.most)
 
   put_as : (n u i a v : ℕ) → Mark S n v → digit v i ≡ a → ((j : ℕ) → j < n → (j ≡ i → ⊥) → digit v j ≡ digit u j) → put n u i a ≡ v
-  put_as n u i a v mark here there = packed_as n v _ mark (λ j k. at j k (cases_eq j i))
-    where
-      at : (j : ℕ) → j < n → (j ≡ i) ⊎ (j ≡ i → ⊥) → cond (eqb j i) a (digit u j) ≡ digit v j
-      at j k (inl e) = cond-true (eqb j i) a (digit u j) (eq-eqb j i e) ∙ sym here ∙ ap (digit v) (sym e)
-      at j k (inr e) = cond-false (eqb j i) a (digit u j) (ne_eqb j i e) ∙ sym (there j k e)
+  put_as n u i a v mark here there = packed_as n v _ mark (λ j k. grind (arith, nat_tests, there j k))
 
   -- to add a symbol at a place is to add the mark that has it there and 0 elsewhere
   filled_plus : (n u i a : ℕ) → Mark S n u → i < n → a < S.q → filled S n u i a ≡ plus S n u (put n 0 i a)
-  filled_plus n u i a mark k h = put_as n u i (S.sum (digit u i) a) (plus S n u one) (plus_mark n u one) here there
-    where
-      one : ℕ
-      one = put n 0 i a
-
-      here : digit (plus S n u one) i ≡ S.sum (digit u i) a
-      here = plus_digit n u one i k ∙ ap (S.sum (digit u i)) (put_here n 0 i a h k)
-
-      there : (j : ℕ) → j < n → (j ≡ i → ⊥) → digit (plus S n u one) j ≡ digit u j
-      there j l other =
-          plus_digit n u one j l ∙ ap (S.sum (digit u j)) (put_there n 0 i a h j l other ∙ digit_past 0 0 j (omega arith) zero-le)
-          ∙ nothing_added (digit u j) (mark.symbols j)
+  filled_plus n u i a mark k h =
+      put_as n u i (S.sum (digit u i) a) (plus S n u (put n 0 i a)) (plus_mark n u (put n 0 i a)) (grind (arith, plus_digit, put_here))
+      (λ j l other.
+      plus_digit n u (put n 0 i a) j l ∙ ap (S.sum (digit u j)) (put_there n 0 i a h j l other ∙ zero_digit j)
+      ∙ nothing_added (digit u j) (mark.symbols j))
 
   -- check numbers
   module _ (C : Checks) (checked : (i j : ℕ) → C.check i j < S.q) where
@@ -243,20 +225,11 @@ module _ (S : Symbols) (lawful : Lawful S) where
 
   pub blank_filled : (n u i : ℕ) → Mark S n u → i < n → filled S n (blank n u i) i (digit u i) ≡ u
   blank_filled n u i mark k =
-      ap (put n (blank n u i) i) (ap (λ x. S.sum x (digit u i)) (blank_here n u i k) ∙ lawful.zero_adds_nothing (digit u i) (mark.symbols i))
-      ∙ blank_again n u i mark k
+      ap (put n (blank n u i) i) (grind (arith, blank_here, lawful.zero_adds_nothing (digit u i) (mark.symbols i))) ∙ blank_again n u i mark k
 
   -- a mark is added by adding it with a place blanked, and then that place's symbol
   pub plus_blank : (n u c i : ℕ) → Mark S n u → i < n → filled S n (plus S n u (blank n c i)) i (digit c i) ≡ plus S n u c
-  plus_blank n u c i mark k = put_as n (plus S n u b) i _ (plus S n u c) (plus_mark n u c) here there
-    where
-      b : ℕ
-      b = blank n c i
-
-      here : digit (plus S n u c) i ≡ S.sum (digit (plus S n u b) i) (digit c i)
-      here =
-          plus_digit n u c i k
-          ∙ ap (λ x. S.sum x (digit c i)) (sym (plus_digit n u b i k ∙ ap (S.sum (digit u i)) (blank_here n c i k) ∙ nothing_added (digit u i) (mark.symbols i)))
-
-      there : (j : ℕ) → j < n → (j ≡ i → ⊥) → digit (plus S n u c) j ≡ digit (plus S n u b) j
-      there j l other = plus_digit n u c j l ∙ ap (S.sum (digit u j)) (sym (blank_there n c i j l other)) ∙ sym (plus_digit n u b j l)
+  plus_blank n u c i mark k =
+      let kept = nothing_added (digit u i) (mark.symbols i) in
+      put_as n (plus S n u (blank n c i)) i _ (plus S n u c) (plus_mark n u c) (grind (arith, plus_digit, blank_here))
+      (λ j l other. grind (arith, plus_digit, blank_there))

@@ -1,5 +1,5 @@
 -- The first digits of a mark, grown one by one.
-use Rattle.std.proofs.Common.{◌≡◌, ℕ, suc, ◌*◌, ◌^◌, ◌<◌, ◌≤◌, ◌⊎◌, sym, ap, ◌∙◌, inl, inr, zero-mul, add-one, arith}
+use Rattle.std.proofs.Common.{◌≡◌, ℕ, suc, ◌<◌, ◌≤◌, ◌⊎◌, sym, ap, ◌∙◌, inl, inr, ⊎_elim, zero-mul, add-one, arith}
 use native.Mathlib.Nat.{pow-le-pow_right}
 use Rattle.std.proofs.lemmas.Bool.{cases_lt}
 use Rattle.algebra.specs.Digits.{pack, digit}
@@ -23,11 +23,7 @@ front_past u k i = digit_past k (front u k) i (pack_below 4 k (digit u) (λ j _.
 
 -- it has 0 or the digit of u
 pub front_digit : (u k i : ℕ) → (digit (front u k) i ≡ 0) ⊎ (digit (front u k) i ≡ digit u i)
-front_digit u k i = go (cases_lt i k)
-  where
-    go : (i < k) ⊎ (k ≤ i) → (digit (front u k) i ≡ 0) ⊎ (digit (front u k) i ≡ digit u i)
-    go (inl h) = inr (front_in u k i h)
-    go (inr h) = inl (front_past u k i h)
+front_digit u k i = ⊎_elim (λ h. inr (front_in u k i h)) (λ h. inl (front_past u k i h)) (cases_lt i k)
 
 pub front_weight : (n u k : ℕ) → k ≤ n → weight n (front u k) ≡ weight k u
 front_weight n u k h =
@@ -37,8 +33,7 @@ front_weight n u k h =
 -- the next digit, where it is 0
 pub front_same : (u k : ℕ) → digit u k ≡ 0 → front u (suc k) ≡ front u k
 front_same u k e =
-    let none : digit u k * 4 ^ k ≡ 0 = ap (λ d. d * 4 ^ k) e ∙ zero-mul (4 ^ k) in
-    ap (front u) (sym (add-one k)) ∙ pack_more 4 k (digit u) ∙ omega arith
+    ap (front u) (sym (add-one k)) ∙ pack_more 4 k (digit u) ∙ grind (arith, zero-mul)
 
 -- and any, as it is added
 module _ (S : Symbols) (lawful : Lawful S) (n u k : ℕ) (mark : Mark S n u) where

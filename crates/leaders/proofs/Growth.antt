@@ -1,25 +1,27 @@
 -- Growth: the first waiting mark of an unsettled coset is the next leader, and where none waits all are settled.
-use Rattle.std.proofs.Common.{◌≡◌, ℕ, zero, suc, ◌+◌, ◌^◌, ◌<◌, ◌≤◌, Bool, true, false, eqb, ◌⊎◌, List, ◌∷◌, length, get_or, sym, refl, ap, ◌∙◌, subst, inl, inr, ⊎_elim, arith}
+use Rattle.std.proofs.Common.{◌≡◌, ℕ, zero, suc, ◌+◌, ◌^◌, ◌<◌, ◌≤◌, Bool, true, false, ◌⊎◌, List, ◌∷◌, length, get_or, sym, refl, ap, ◌∙◌, subst, inl, inr, ⊎_elim, arith}
 use native.Mathlib.Nat.{pow-le-pow_right}
 use Rattle.std.specs.List.Sorted.{IsPermutation}
 use Rattle.std.specs.List.{ContainsAt as Has, AllByRecursion}
 use Rattle.std.proofs.ByRecursion.{all-has, all_shuffled, has_shuffled}
-use Rattle.std.proofs.lemmas.Bool.{cond_both, cases_eq, cases_lt, eqb-false, true≢false}
+use Rattle.std.proofs.lemmas.Bool.{cases_eq, cases_lt, true≢false}
+use Rattle.std.proofs.lemmas.Bool.Decides.{nat_tests}
 use Rattle.algebra.specs.Digits.{digit}
 use Rattle.algebra.specs.Marks.{put, blank}
-use Rattle.algebra.proofs.Digits.{digit_past, same_digits}
+use Rattle.algebra.proofs.Digits.{digit_past, same_digits, zero_digit}
 use Rattle.algebra.proofs.Marks.{put_below, put_digit}
 use Rattle.leaders.specs.Growth.{Sprout, Waiting}
 use Rattle.leaders.specs.Leaders.{leaders, coset_count, leader_number, leader_of}
 use Rattle.leaders.specs.Schemes.{Scheme, MarkOf, Proper}
-use Rattle.leaders.proofs.Ranked.{has_cases, has_there}
-use Rattle.leaders.proofs.Leaders.{never_itself, leader_first, at_mark, at_leader, number_at, number_least, number_most, leader_at, leaders_order, leaders_before, some_coset, blank_mark, blank_put, blank_leads, blank_before}
+use Rattle.leaders.proofs.Adding.{blank_mark}
+use Rattle.leaders.proofs.Ranked.{has_cases, has_there, upto_trans}
+use Rattle.leaders.proofs.Leaders.{order, never_itself, leader_first, at_mark, at_leader, number_at, number_least, number_most, leader_place, leaders_order, leaders_before, some_coset, blank_put, blank_leads, blank_before}
 
 -- a number whose n digits are 0 is 0
 pub no_digits : (n u : ℕ) → u < 4 ^ n → ((i : ℕ) → i < n → digit u i ≡ 0) → u ≡ 0
 no_digits n u h none =
     same_digits n u 0 h (omega (arith, pow-le-pow_right {n = 4} (omega arith) {i = 0} {j = n} (omega arith)))
-    (λ i k. none i k ∙ sym (digit_past 0 0 i (omega arith) (omega arith)))
+    (λ i k. none i k ∙ sym (zero_digit i))
 
 -- the highest nonzero place of a number with n digits, if there is one
 pub record Top (n u : ℕ) : Type 0 where
@@ -30,15 +32,10 @@ pub record Top (n u : ℕ) : Type 0 where
 
 top_below : (n u m : ℕ) → m ≤ n → ((j : ℕ) → m ≤ j → digit u j ≡ 0) → ((j : ℕ) → digit u j ≡ 0) ⊎ Top n u
 top_below n u zero h none = inl (λ j. none j (omega arith))
-top_below n u (suc m) h none = go (cases_eq (digit u m) 0) (top_below n u m (omega arith))
-  where
-    here : (j : ℕ) → digit u m ≡ 0 → m ≤ j → (m ≡ j) ⊎ (m ≡ j → ⊥) → digit u j ≡ 0
-    here j e k (inl p) = subst (λ x. digit u x ≡ 0) p e
-    here j e k (inr p) = none j (omega arith)
-
-    go : (digit u m ≡ 0) ⊎ (digit u m ≡ 0 → ⊥) → (((j : ℕ) → m ≤ j → digit u j ≡ 0) → ((j : ℕ) → digit u j ≡ 0) ⊎ Top n u) → ((j : ℕ) → digit u j ≡ 0) ⊎ Top n u
-    go (inl e) rest = rest (λ j k. here j e k (cases_eq m j))
-    go (inr e) rest = inr (record { place = m; inside = h; some = omega arith; above = λ j k. none j k })
+top_below n u (suc m) h none =
+    ⊎_elim
+    (λ e. top_below n u m (omega arith) (λ j k. ⊎_elim (λ p. subst (λ x. digit u x ≡ 0) p e) (λ p. none j (omega arith)) (cases_eq m j)))
+    (λ e. inr (record { place = m; inside = h; some = omega arith; above = none })) (cases_eq (digit u m) 0)
 
 pub top_of : (n u : ℕ) → u < 4 ^ n → (u ≡ 0) ⊎ Top n u
 top_of n u h =
@@ -46,16 +43,9 @@ top_of n u h =
 
 -- blanking it leaves nothing from there on
 pub top_blanked : (n u : ℕ) (top : Top n u) (j : ℕ) → top.place ≤ j → digit (blank n u top.place) j ≡ 0
-top_blanked n u top j h = go (cases_lt j n)
-  where
-    i : ℕ
-    i = top.place
-
-    go : (j < n) ⊎ (n ≤ j) → digit (blank n u i) j ≡ 0
-    go (inl l) =
-        put_digit n u i 0 (omega arith) j l
-        ∙ cond_both (eqb j i) 0 (digit u j) (λ d. d ≡ 0) (λ _. refl) (λ e. top.above j (omega (arith, eqb-false j i e)))
-    go (inr past) = digit_past n (blank n u i) j (put_below n u i 0 (omega arith)) past
+top_blanked n u top j h =
+    ⊎_elim (λ l. grind (arith, nat_tests, put_digit n u top.place 0 (omega arith) j l, top.above j))
+    (digit_past n (blank n u top.place) j (put_below n u top.place 0 (omega arith))) (cases_lt j n)
 
 module _ (T : Scheme) (proper : Proper T) where
   abbrev n : ℕ
@@ -85,17 +75,18 @@ module _ (T : Scheme) (proper : Proper T) where
       w = blank n u top.place
 
       w_mark : MarkOf T w
-      w_mark = blank_mark T proper u top.place mark (at_leader T proper k inside) top.inside top.some
+      w_mark = blank_mark T.symbols proper.alphabet n u top.place mark
 
       w_leads : leader_of T w ≡ w
       w_leads = blank_leads T proper u top.place mark (at_leader T proper k inside) top.inside top.some
 
-      parent_at : (j : ℕ) → leader_number T w ≡ suc j → Parent k
-      parent_at j e =
-          let here : at j ≡ w = leader_at T proper w w_mark j e ∙ w_leads in
+      parent_of : Parent k
+      parent_of =
+          let (j, within, number, place) = leader_place T proper w w_mark in
+          let here : at j ≡ w = place ∙ w_leads in
           record {
             index = j;
-            earlier = leaders_before T proper j k (omega (arith, number_most T proper w w_mark)) (subst (λ x. before x u ≡ true) (sym here) (blank_before T proper u top.place mark (at_leader T proper k inside) top.inside top.some));
+            earlier = leaders_before T proper j k within (subst (λ x. before x u ≡ true) (sym here) (blank_before T proper u top.place mark (at_leader T proper k inside) top.inside top.some));
             sprout = record {
               place = top.place;
               symbol = digit u top.place;
@@ -107,12 +98,8 @@ module _ (T : Scheme) (proper : Proper T) where
             };
           }
 
-      parent_under : (m : ℕ) → leader_number T w ≡ m → Parent k
-      parent_under zero e = absurd (omega (arith, number_least T proper w w_mark))
-      parent_under (suc j) e = parent_at j e
-
     pub parent : (at k ≡ 0) ⊎ Parent k
-    parent = ⊎_elim (λ e. inl e) (λ top. inr (parent_under top (leader_number T (w top)) refl)) (top_of n u mark.short)
+    parent = ⊎_elim (λ e. inl e) (λ top. inr (parent_of top)) (top_of n u mark.short)
 
   -- the first leader is 0, and no other is
   pub first_leader : at 0 ≡ 0
@@ -137,7 +124,8 @@ module _ (T : Scheme) (proper : Proper T) where
 
   -- The first waiting mark, where its coset is not settled, is the next leader.
   pub next_leader : (k : ℕ) (items : List ℕ) (u : ℕ) → Waiting T k k items → Has items u → ((v : ℕ) → Has items v → before v u ≡ false) → k < leader_number T u → at k ≡ u
-  next_leader k items u waiting here first unsettled = go (leader_number T u) refl
+  next_leader k items u waiting here first unsettled =
+      ⊎_elim (λ e. e) (λ h. absurd (not_before h)) (upto_trans before (λ v. v < 4 ^ n) (order T proper) (at k) (leader_of T u) u placed led)
     where
       mark_u : MarkOf T u
       mark_u = all-has (MarkOf T) items u waiting.marks here
@@ -151,30 +139,16 @@ module _ (T : Scheme) (proper : Proper T) where
       led : (leader_of T u ≡ u) ⊎ (before (leader_of T u) u ≡ true)
       led = leader_first T proper u mark_u u mark_u refl
 
-      same : at k ≡ leader_of T u → (leader_of T u ≡ u) ⊎ (before (leader_of T u) u ≡ true) → at k ≡ u
-      same e (inl p) = e ∙ p
-      same e (inr p) = absurd (not_before (subst (λ x. before x u ≡ true) (sym e) p))
-
-      later : before (at k) (leader_of T u) ≡ true → (leader_of T u ≡ u) ⊎ (before (leader_of T u) u ≡ true) → at k ≡ u
-      later h (inl p) = absurd (not_before (subst (λ x. before (at k) x ≡ true) p h))
-      later h (inr p) = absurd (not_before (proper.ranks.transitive (at k) (leader_of T u) u h p))
-
-      placed : (j : ℕ) → leader_number T u ≡ suc j → (k ≡ j) ⊎ (k ≡ j → ⊥) → at k ≡ u
-      placed j e (inl p) = same (ap at p ∙ leader_at T proper u mark_u j e) led
-      placed j e (inr p) =
-          later (subst (λ x. before (at k) x ≡ true) (leader_at T proper u mark_u j e) (leaders_order T proper k j (omega arith) (omega (arith, number_most T proper u mark_u)))) led
-
-      go : (m : ℕ) → leader_number T u ≡ m → at k ≡ u
-      go zero e = absurd (omega arith)
-      go (suc j) e = placed j e (cases_eq k j)
+      placed : (at k ≡ leader_of T u) ⊎ (before (at k) (leader_of T u) ≡ true)
+      placed =
+          let (j, inside, number, place) = leader_place T proper u mark_u in
+          subst (λ v. (at k ≡ v) ⊎ (before (at k) v ≡ true)) place
+          (⊎_elim (λ e. inl (ap at e)) (λ e. inr (leaders_order T proper k j (omega arith) inside)) (cases_eq k j))
 
   -- Where none waits, every coset is settled.
   pub none_waits : (k : ℕ) (items : List ℕ) → Waiting T k k items → length items ≡ 0 → k ≤ coset_count T → k ≡ coset_count T
-  none_waits k items waiting e h = go (cases_lt k (coset_count T))
-    where
-      go : (k < coset_count T) ⊎ (coset_count T ≤ k) → k ≡ coset_count T
-      go (inl l) = absurd (omega (arith, (next_waits k items waiting l).1))
-      go (inr l) = omega arith
+  none_waits k items waiting e h =
+      ⊎_elim (λ l. absurd (omega (arith, (next_waits k items waiting l).1))) (λ l. omega arith) (cases_lt k (coset_count T))
 
   -- what becomes of those that wait: one is taken whose coset is settled now; one is put; a leader's sprouts are all put
   pub waiting_taken : (k k' m : ℕ) (items rest : List ℕ) (u : ℕ) → Waiting T k m items → IsPermutation items (u ∷ rest) → k ≤ k' → leader_number T u ≤ k' → Waiting T k' m rest
@@ -205,9 +179,5 @@ module _ (T : Scheme) (proper : Proper T) where
   waiting_more k m items waiting here = record {
     marks = waiting.marks;
     start = waiting.start;
-    sprouts = λ j v p s. go j v p s (cases_eq j m);
+    sprouts = λ j v p s. ⊎_elim (λ e. inr (here v (subst (λ i. Sprout T (at i) v) e s))) (λ e. waiting.sprouts j v (omega arith) s) (cases_eq j m);
   }
-    where
-      go : (j v : ℕ) → j < m + 1 → Sprout T (at j) v → (j ≡ m) ⊎ (j ≡ m → ⊥) → (leader_number T v ≤ k) ⊎ Has items v
-      go j v p s (inl e) = inr (here v (subst (λ i. Sprout T (at i) v) e s))
-      go j v p s (inr e) = waiting.sprouts j v (omega arith) s

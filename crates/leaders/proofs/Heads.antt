@@ -1,21 +1,21 @@
 -- Heads: what their list holds, each as a leader with one more symbol, and one sits in every mark that is no leader.
-use Rattle.std.proofs.Common.{◌≡◌, ℕ, zero, suc, ◌^◌, ◌<◌, ◌≤◌, Bool, true, false, ◌⊎◌, length, get_or, Decides, sym, refl, ap, ◌∙◌, subst, inl, inr, ⊎_elim, arith}
+use Rattle.std.proofs.Common.{◌≡◌, ℕ, zero, suc, ◌^◌, ◌<◌, Bool, true, false, ◌⊎◌, length, get_or, Decides, sym, refl, ap, ◌∙◌, subst, inl, inr, ⊎_elim, arith}
+use borrow.Author.Count.{below_more, below_none}
 use Rattle.std.specs.List.{ContainsAt as Has}
-use Rattle.std.proofs.lemmas.Bool.{cases_eq, cases_lt, true≢false}
+use Rattle.std.proofs.lemmas.Bool.{cases_eq, true≢false}
 use Rattle.std.proofs.lemmas.Bool.Decides.{Decides-and, Decides-below_and, Decides-eqb, Decides-not, Decides-or}
 use Rattle.algebra.specs.Digits.{digit}
 use Rattle.algebra.specs.Marks.{put, blank}
-use Rattle.algebra.specs.Symbols.{Symbols, Lawful}
 use Rattle.algebra.proofs.Marks.{put_below}
 use Rattle.algebra.proofs.Rankings.{put_more}
 use Rattle.leaders.specs.Growth.{Sprout}
 use Rattle.leaders.specs.Heads.{everywhere, is_head, heads, sits, sitting, Head, Sits}
 use Rattle.leaders.specs.Leaders.{leader_of, is_leader, leaders, coset_count}
 use Rattle.leaders.specs.Schemes.{Scheme, MarkOf, Proper}
-use Rattle.leaders.proofs.Adding.{zero_symbol, put_mark, blank_here, blank_there, blank_again}
+use Rattle.leaders.proofs.Adding.{blank_mark, blank_here, blank_there, blank_again}
 use Rattle.leaders.proofs.Growth.{Top, no_digits, top_of, top_blanked, first_leader}
 use Rattle.leaders.proofs.Leaders.{leads, at_leader, some_coset, passing_has, has_passing, passing_order, passing_distinct}
-use Rattle.leaders.proofs.Ranked.{Distinct, has_none, kept_has, has_kept, kept_first}
+use Rattle.leaders.proofs.Ranked.{Distinct, by_smaller, has_none, kept_has, has_kept, kept_first}
 
 -- a test at each of n places
 everywhere_decides : (test : ℕ → Bool) (P : ℕ → Type 0) → ((i : ℕ) → Decides (test i) (P i)) → (n : ℕ) → Decides (everywhere n test) ((i : ℕ) → i < n → P i)
@@ -29,15 +29,11 @@ pub record First (P Q : ℕ → Type 0) (n : ℕ) : Type 0 where
   pub below : (j : ℕ) → j < place → P j
 
 first_place : (P Q : ℕ → Type 0) → ((i : ℕ) → P i ⊎ Q i) → (n : ℕ) → ((i : ℕ) → i < n → P i) ⊎ First P Q n
-first_place P Q either zero = inl (λ i h. absurd (omega arith))
+first_place P Q either zero = inl (below_none P)
 first_place P Q either (suc n) = go (first_place P Q either n) (either n)
   where
-    each : P n → ((i : ℕ) → i < n → P i) → (i : ℕ) → i < suc n → (i < n) ⊎ (n ≤ i) → P i
-    each p all i h (inl l) = all i l
-    each p all i h (inr l) = let e : n ≡ i = omega arith in subst P e p
-
     go : ((i : ℕ) → i < n → P i) ⊎ First P Q n → P n ⊎ Q n → ((i : ℕ) → i < suc n → P i) ⊎ First P Q (suc n)
-    go (inl all) (inl p) = inl (λ i h. each p all i h (cases_lt i n))
+    go (inl all) (inl p) = inl (λ i h. below_more P n all p i (omega arith))
     go (inl all) (inr q) = inr (record { place = n; inside = omega arith; is = q; below = all })
     go (inr f) k = inr (record { place = f.place; inside = omega arith; is = f.is; below = f.below })
 
@@ -51,17 +47,8 @@ bottom_of n u h =
     (first_place (λ i. digit u i ≡ 0) (λ i. 0 < digit u i) (λ i. ⊎_elim (λ e. inl e) (λ e. inr (omega arith)) (cases_eq (digit u i) 0)) n)
 
 module _ (T : Scheme) (proper : Proper T) where
-  abbrev S : Symbols
-  S = T.symbols
-
   abbrev n : ℕ
   n = T.checks.n
-
-  abbrev before : ℕ → ℕ → Bool
-  before = T.ranking.before
-
-  lawful : Lawful S
-  lawful = proper.alphabet
 
   -- what the tests say
   pub sits_decides : (h w : ℕ) → Decides (sits T h w) (Sits T h w)
@@ -78,11 +65,9 @@ module _ (T : Scheme) (proper : Proper T) where
   -- the heads, and nothing else, each before the next
   pub heads_has : (u : ℕ) → Head T u → Has (heads T) u
   unfolding heads
-  heads_has u head = passing_has T proper (is_head T) u head.mark ((head_test u).1 (head.misled, λ i h. blanks i h (cases_eq (digit u i) 0)))
-    where
-      blanks : (i : ℕ) → i < n → (digit u i ≡ 0) ⊎ (digit u i ≡ 0 → ⊥) → (digit u i ≡ 0) ⊎ (leader_of T (blank n u i) ≡ blank n u i)
-      blanks i h (inl e) = inl e
-      blanks i h (inr e) = inr (head.blanks i h (omega arith))
+  heads_has u head =
+      passing_has T proper (is_head T) u head.mark
+      ((head_test u).1 (head.misled, λ i h. ⊎_elim (λ e. inl e) (λ e. inr (head.blanks i h (omega arith))) (cases_eq (digit u i) 0)))
 
   pub has_heads : (u : ℕ) → Has (heads T) u → Head T u
   unfolding heads
@@ -98,7 +83,7 @@ module _ (T : Scheme) (proper : Proper T) where
       tested : (leader_of T u ≡ u → ⊥) × ((i : ℕ) → i < n → (digit u i ≡ 0) ⊎ (leader_of T (blank n u i) ≡ blank n u i))
       tested = (head_test u).0 listed.1
 
-  pub heads_order : (i j : ℕ) → i < j → j < length (heads T) → before (get_or (heads T) i 0) (get_or (heads T) j 0) ≡ true
+  pub heads_order : (i j : ℕ) → i < j → j < length (heads T) → T.ranking.before (get_or (heads T) i 0) (get_or (heads T) j 0) ≡ true
   unfolding heads
   heads_order = passing_order T proper (is_head T)
 
@@ -141,13 +126,13 @@ module _ (T : Scheme) (proper : Proper T) where
     module _ (i : ℕ) (inside : i < n) (some : 0 < digit h i) where
       pub head_leader : Has (leaders T) (blank n h i)
       head_leader =
-          leads T proper (blank n h i) (put_mark S lawful n h i 0 head.mark (zero_symbol S lawful)) (head.blanks i inside some)
+          leads T proper (blank n h i) (blank_mark T.symbols proper.alphabet n h i head.mark) (head.blanks i inside some)
 
       pub head_free : digit (blank n h i) i ≡ 0
-      head_free = blank_here S lawful n h i inside
+      head_free = blank_here T.symbols proper.alphabet n h i inside
 
       pub head_put : put n (blank n h i) i (digit h i) ≡ h
-      head_put = blank_again S lawful n h i head.mark inside
+      head_put = blank_again T.symbols proper.alphabet n h i head.mark inside
 
     -- the lowest of them, and the highest
     pub head_bottom : Bottom n h
@@ -185,24 +170,17 @@ module _ (T : Scheme) (proper : Proper T) where
   -- a mark with a nonzero place blanked is a smaller number
   pub blank_less : (w i : ℕ) → MarkOf T w → i < n → 0 < digit w i → blank n w i < w
   blank_less w i mark inside some =
-      subst (λ v. blank n w i < v) (blank_again S lawful n w i mark inside)
-      (put_more n (blank n w i) i (digit w i) (put_below n w i 0 (omega arith)) inside (blank_here S lawful n w i inside) some (omega (arith, mark.symbols i, lawful.most)))
+      subst (λ v. blank n w i < v) (blank_again T.symbols proper.alphabet n w i mark inside)
+      (put_more n (blank n w i) i (digit w i) (put_below n w i 0 (omega arith)) inside (blank_here T.symbols proper.alphabet n w i inside) some (omega (arith, mark.symbols i, proper.alphabet.most)))
 
   -- and sits in it
   pub blank_sits : (w i : ℕ) → i < n → Sits T (blank n w i) w
-  blank_sits w i inside j h = go (cases_eq j i)
-    where
-      go : (j ≡ i) ⊎ (j ≡ i → ⊥) → (digit (blank n w i) j ≡ 0) ⊎ (digit (blank n w i) j ≡ digit w j)
-      go (inl e) = inl (ap (digit (blank n w i)) e ∙ blank_here S lawful n w i inside)
-      go (inr e) = inr (blank_there S lawful n w i j h e)
+  blank_sits w i inside j h =
+      ⊎_elim (λ e. inl (ap (digit (blank n w i)) e ∙ blank_here T.symbols proper.alphabet n w i inside))
+      (λ e. inr (blank_there T.symbols proper.alphabet n w i j h e)) (cases_eq j i)
 
   sits_through : (u v w : ℕ) → Sits T u v → Sits T v w → Sits T u w
-  sits_through u v w h k i inside = go (h i inside) (k i inside)
-    where
-      go : (digit u i ≡ 0) ⊎ (digit u i ≡ digit v i) → (digit v i ≡ 0) ⊎ (digit v i ≡ digit w i) → (digit u i ≡ 0) ⊎ (digit u i ≡ digit w i)
-      go (inl e) q = inl e
-      go (inr e) (inl q) = inl (e ∙ q)
-      go (inr e) (inr q) = inr (e ∙ q)
+  sits_through u v w h k i inside = ⊎_elim (λ e. inl e) (λ e. ⊎_elim (λ q. inl (e ∙ q)) (λ q. inr (e ∙ q)) (k i inside)) (h i inside)
 
   -- A head sits in every mark that is no leader: blank nonzero places for as long as no leader results.
   pub record Seat (w : ℕ) : Type 0 where
@@ -221,12 +199,9 @@ module _ (T : Scheme) (proper : Proper T) where
     Misleads i = (0 < digit w i) × (leader_of T (blank n w i) ≡ blank n w i → ⊥)
 
     either : (i : ℕ) → Leads i ⊎ Misleads i
-    either i = go (cases_eq (digit w i) 0) (cases_eq (leader_of T (blank n w i)) (blank n w i))
-      where
-        go : (digit w i ≡ 0) ⊎ (digit w i ≡ 0 → ⊥) → (leader_of T (blank n w i) ≡ blank n w i) ⊎ (leader_of T (blank n w i) ≡ blank n w i → ⊥) → Leads i ⊎ Misleads i
-        go (inl e) k = inl (λ some. absurd (omega arith))
-        go (inr e) (inl k) = inl (λ _. k)
-        go (inr e) (inr k) = inr (omega arith, k)
+    either i =
+        ⊎_elim (λ e. inl (λ some. absurd (omega arith)))
+        (λ e. ⊎_elim (λ k. inl (λ _. k)) (λ k. inr (omega arith, k)) (cases_eq (leader_of T (blank n w i)) (blank n w i))) (cases_eq (digit w i) 0)
 
     settle : ((v : ℕ) → v < w → MarkOf T v → Settled v) → Settled w
     settle smaller = go (cases_eq (leader_of T w) w) (first_place Leads Misleads either n)
@@ -242,14 +217,10 @@ module _ (T : Scheme) (proper : Proper T) where
         go (inr e) (inl k) = inr (record { head = w; is = record { mark = mark; misled = e; blanks = k }; sits = λ i _. inr refl })
         go (inr e) (inr f) =
             let i : ℕ = f.place in
-            down f (smaller (blank n w i) (blank_less w i mark f.inside f.is.0) (put_mark S lawful n w i 0 mark (zero_symbol S lawful)))
-
-  settle_under : (m w : ℕ) → w < m → MarkOf T w → Settled w
-  settle_under zero w h mark = absurd (omega arith)
-  settle_under (suc m) w h mark = settle w mark (λ v l. settle_under m v (omega arith))
+            down f (smaller (blank n w i) (blank_less w i mark f.inside f.is.0) (blank_mark T.symbols proper.alphabet n w i mark))
 
   pub seat_of : (w : ℕ) → MarkOf T w → (leader_of T w ≡ w) ⊎ Seat w
-  seat_of w = settle_under (suc w) w (omega arith)
+  seat_of = by_smaller (λ w. MarkOf T w → Settled w) (λ w smaller mark. settle w mark smaller)
 
   pub no_head_leads : (w : ℕ) → MarkOf T w → length (sitting T w) ≡ 0 → leader_of T w ≡ w
   no_head_leads w mark none = ⊎_elim (λ e. e) (λ seat. absurd (omega (arith, (sitting_has seat.head w seat.is seat.sits).1))) (seat_of w mark)

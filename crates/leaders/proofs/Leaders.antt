@@ -1,20 +1,17 @@
 -- A coset's leader, and the list of all leaders in ranking order.
 use Rattle.std.proofs.Common.{◌≡◌, ℕ, zero, suc, ◌^◌, ◌<◌, ◌≤◌, Bool, true, eqb, ◌⊎◌, List, ◌∷◌, length, get_or, filter, sym, refl, ap, ◌∙◌, subst, inl, inr, ⊎_elim, arith}
-use Rattle.std.specs.List.{ContainsAt as Has, AllByRecursion}
-use Rattle.std.proofs.ByRecursion.{All-from_get_or, has_get_or}
-use Rattle.std.proofs.lemmas.Bool.{cases_order, eqb-true, eq-eqb, true≢false}
+use Rattle.std.specs.List.{ContainsAt as Has}
+use Rattle.std.proofs.ByRecursion.{has_get_or, has_shuffled}
+use Rattle.std.proofs.lemmas.List.Sorted.{IsPermutation-sym}
+use Rattle.std.proofs.lemmas.Bool.{cases_lt, cases_order, eqb-true, eq-eqb, true≢false}
 use Rattle.algebra.specs.Digits.{digit}
-use Rattle.algebra.specs.Marks.{Mark, put, blank}
+use Rattle.algebra.specs.Marks.{put, blank, weight}
 use Rattle.algebra.specs.Rankings.{filled}
 use Rattle.algebra.specs.Symbols.{Symbols}
 use Rattle.leaders.specs.Leaders.{ranked, index_of, check_of, marks, coset, leader_of, is_leader, leaders, coset_count, leader_number}
 use Rattle.leaders.specs.Schemes.{Scheme, MarkOf, Proper}
-use Rattle.leaders.proofs.Adding.{zero_mark, put_mark, check_below, filled_same, blank_here, blank_again, blank_filled}
-use Rattle.leaders.proofs.Ranked.{Order, Distinct, first_ranked_has, first_ranked_first, ranked_has, has_ranked, ranked_order, index_of_below, get_or_index_of, index_of_get_or, kept_has, has_kept, kept_distinct, all_marks_has, all_marks_short, all_marks_symbols, all_marks_distinct, pigeonhole}
-
--- what holds of every element, by membership
-all_from_has : (P : ℕ → Type 0) (us : List ℕ) → ((u : ℕ) → Has us u → P u) → AllByRecursion P us
-all_from_has P us h = All-from_get_or P us 0 (λ i k. h (get_or us i 0) (has_get_or us i 0 k))
+use Rattle.leaders.proofs.Adding.{zero_symbol, zero_mark, put_mark, blank_mark, check_below, filled_same, blank_here, blank_again, blank_filled}
+use Rattle.leaders.proofs.Ranked.{Order, Distinct, all_from_has, first_ranked_has, first_ranked_first, ranked_shuffled, ranked_order, index_of_below, get_or_index_of, index_of_get_or, kept_has, has_kept, kept_distinct, all_marks_has, all_marks_short, all_marks_symbols, all_marks_distinct, pigeonhole}
 
 module _ (T : Scheme) (proper : Proper T) where
   abbrev S : Symbols
@@ -26,31 +23,15 @@ module _ (T : Scheme) (proper : Proper T) where
   abbrev before : ℕ → ℕ → Bool
   before = T.ranking.before
 
-  q_most : S.q ≤ 4
-  q_most = proper.alphabet.most
-
-  q_some : 0 < S.q
-  q_some = omega (arith, proper.alphabet.least)
-
   -- the laws of ranking, at the table's length
-  ranking_length : (u : ℕ) → u < 4 ^ n → u < 4 ^ T.ranking.n
-  ranking_length u h = subst (λ m. u < 4 ^ m) (sym proper.same_length) h
-
   pub order : Order before (λ u. u < 4 ^ n)
-  order = record {
-    some_way = λ u v h k. proper.ranks.some_way u v (ranking_length u h) (ranking_length v k);
-    transitive = proper.ranks.transitive;
-  }
+  order = record { some_way = rw proper.same_length at proper.ranks.some_way; transitive = proper.ranks.transitive }
 
   pub zero_first : (u i a : ℕ) → u < 4 ^ n → i < n → digit u i ≡ 0 → 0 < a → a < 4 → before u (put n u i a) ≡ true
-  zero_first =
-      subst (λ m. (u i a : ℕ) → u < 4 ^ m → i < m → digit u i ≡ 0 → 0 < a → a < 4 → before u (put m u i a) ≡ true)
-      proper.same_length proper.ranks.zero_first
+  zero_first = rw proper.same_length at proper.ranks.zero_first
 
   pub filling_keeps : (u v i a : ℕ) → MarkOf T u → MarkOf T v → before u v ≡ true → i < n → digit v i ≡ 0 → 0 < a → a < S.q → before (filled S n u i a) (filled S n v i a) ≡ true
-  filling_keeps =
-      subst (λ m. (u v i a : ℕ) → Mark S m u → Mark S m v → before u v ≡ true → i < m → digit v i ≡ 0 → 0 < a → a < S.q → before (filled S m u i a) (filled S m v i a) ≡ true)
-      proper.same_length (proper.ranks.filling_keeps S proper.alphabet)
+  filling_keeps = rw proper.same_length at (proper.ranks.filling_keeps S proper.alphabet)
 
   -- no mark ranks before itself, and no two before each other
   pub never_itself : (u : ℕ) → before u u ≡ true → ⊥
@@ -59,15 +40,23 @@ module _ (T : Scheme) (proper : Proper T) where
   pub never_two : (u v : ℕ) → before u v ≡ true → before v u ≡ true → ⊥
   never_two u v h k = true≢false (sym k ∙ proper.ranks.never_both u v h)
 
+  -- under a ranking by weight, none is heavier than one that ranks after it
+  lighter_first : T.ranking.by_weight ≡ true → (u v : ℕ) → u < 4 ^ n → v < 4 ^ n → weight n u < weight n v → before u v ≡ true
+  lighter_first = rw proper.same_length at proper.ranks.lighter_first
+
+  pub no_heavier : T.ranking.by_weight ≡ true → (u v : ℕ) → MarkOf T u → MarkOf T v → before u v ≡ true → weight n u ≤ weight n v
+  no_heavier weighs u v mu mv h =
+      ⊎_elim (λ l. absurd (never_two u v h (lighter_first weighs v u mv.short mu.short l))) (λ l. l) (cases_lt (weight n v) (weight n u))
+
   pub mark_listed : (u : ℕ) → MarkOf T u → Has (marks T) u
   unfolding marks
-  mark_listed u mark = all_marks_has S.q n u q_most mark.short mark.symbols
+  mark_listed u mark = all_marks_has S.q n u proper.alphabet.most mark.short mark.symbols
 
   pub listed_mark : (u : ℕ) → Has (marks T) u → MarkOf T u
   unfolding marks
   listed_mark u h = record {
-    short = all_marks_short S.q n u q_most h;
-    symbols = all_marks_symbols S.q n u q_some q_most h;
+    short = all_marks_short S.q n u proper.alphabet.most h;
+    symbols = all_marks_symbols S.q n u (zero_symbol S proper.alphabet) proper.alphabet.most h;
   }
 
   pub coset_has : (s u : ℕ) → MarkOf T u → check_of T u ≡ s → Has (coset T s) u
@@ -107,12 +96,9 @@ module _ (T : Scheme) (proper : Proper T) where
   -- a coset has one leader
   pub leader_same : (u v : ℕ) → MarkOf T u → MarkOf T v → check_of T u ≡ check_of T v → leader_of T u ≡ leader_of T v
   leader_same u v mu mv e =
-      go (leader_first u mu (leader_of T v) (leader_mark v mv) (leader_check v mv ∙ sym e)) (leader_first v mv (leader_of T u) (leader_mark u mu) (leader_check u mu ∙ e))
-    where
-      go : (leader_of T u ≡ leader_of T v) ⊎ (before (leader_of T u) (leader_of T v) ≡ true) → (leader_of T v ≡ leader_of T u) ⊎ (before (leader_of T v) (leader_of T u) ≡ true) → leader_of T u ≡ leader_of T v
-      go (inl p) k = p
-      go (inr p) (inl k) = sym k
-      go (inr p) (inr k) = absurd (never_two (leader_of T u) (leader_of T v) p k)
+      ⊎_elim (λ p. p)
+      (λ p. ⊎_elim (λ k. sym k) (λ k. absurd (never_two (leader_of T u) (leader_of T v) p k)) (leader_first v mv (leader_of T u) (leader_mark u mu) (leader_check u mu ∙ e)))
+      (leader_first u mu (leader_of T v) (leader_mark v mv) (leader_check v mv ∙ sym e))
 
   pub leader_again : (u : ℕ) → MarkOf T u → leader_of T (leader_of T u) ≡ leader_of T u
   leader_again u mark = leader_same (leader_of T u) u (leader_mark u mark) mark (leader_check u mark)
@@ -124,11 +110,11 @@ module _ (T : Scheme) (proper : Proper T) where
 
     pub passing_has : (u : ℕ) → MarkOf T u → test u ≡ true → Has passing u
     passing_has u mark e =
-        ranked_has before (λ v. v < 4 ^ n) order (filter test (marks T)) u (kept_has test (marks T) u (mark_listed u mark) e)
+        has_shuffled (filter test (marks T)) passing u (ranked_shuffled before _) (kept_has test (marks T) u (mark_listed u mark) e)
 
     pub has_passing : (u : ℕ) → Has passing u → MarkOf T u × (test u ≡ true)
     has_passing u h =
-        let k = has_kept test (marks T) u (has_ranked before (λ v. v < 4 ^ n) order (filter test (marks T)) u h) in
+        let k = has_kept test (marks T) u (has_shuffled passing _ u (IsPermutation-sym _ _ (ranked_shuffled before _)) h) in
         (listed_mark u k.0, k.1)
 
     pub passing_order : (i j : ℕ) → i < j → j < length passing → before (get_or passing i 0) (get_or passing j 0) ≡ true
@@ -136,7 +122,7 @@ module _ (T : Scheme) (proper : Proper T) where
     passing_order =
         ranked_order before (λ v. v < 4 ^ n) order (filter test (marks T))
         (all_from_has (λ w. w < 4 ^ n) (filter test (marks T)) (λ w h. (listed_mark w (has_kept test (marks T) w h).0).short))
-        (kept_distinct test (marks T) (all_marks_distinct S.q n q_most))
+        (kept_distinct test (marks T) (all_marks_distinct S.q n proper.alphabet.most))
 
     pub passing_distinct : Distinct passing
     passing_distinct i j h k e =
@@ -190,28 +176,33 @@ module _ (T : Scheme) (proper : Proper T) where
     listed : Has (leaders T) (leader_of T u)
     listed = leads (leader_of T u) (leader_mark u mark) (leader_again u mark)
 
+    -- where the leader of u's coset stands
+    pub leader_place : (i : ℕ) × (i < coset_count T) × (leader_number T u ≡ suc i) × (get_or (leaders T) i 0 ≡ leader_of T u)
+    unfolding leader_number coset_count
+    leader_place =
+        (index_of (leader_of T u) (leaders T), index_of_below (leaders T) (leader_of T u) listed, refl, get_or_index_of (leaders T) (leader_of T u) listed)
+
     pub number_least : 1 ≤ leader_number T u
     unfolding leader_number
     number_least = omega arith
 
     pub number_most : leader_number T u ≤ coset_count T
-    unfolding leader_number coset_count
-    number_most = index_of_below (leaders T) (leader_of T u) listed
+    number_most = let (i, inside, number, place) = leader_place in omega arith
 
     pub leader_at : (i : ℕ) → leader_number T u ≡ suc i → get_or (leaders T) i 0 ≡ leader_of T u
-    unfolding leader_number
-    leader_at i e = let k : index_of (leader_of T u) (leaders T) ≡ i = omega arith in ap (λ j. get_or (leaders T) j 0) (sym k) ∙ get_or_index_of (leaders T) (leader_of T u) listed
+    leader_at i e =
+        let (j, inside, number, place) = leader_place in
+        let same : i ≡ j = omega arith in
+        ap (λ k. get_or (leaders T) k 0) same ∙ place
 
   pub number_same : (u v : ℕ) → MarkOf T u → MarkOf T v → check_of T u ≡ check_of T v → leader_number T u ≡ leader_number T v
   unfolding leader_number
   number_same u v mu mv e = ap (λ w. suc (index_of w (leaders T))) (leader_same u v mu mv e)
 
   pub same_number : (u v : ℕ) → MarkOf T u → MarkOf T v → leader_number T u ≡ leader_number T v → check_of T u ≡ check_of T v
-  same_number u v mu mv e = go (leader_number T u) refl
-    where
-      go : (k : ℕ) → leader_number T u ≡ k → check_of T u ≡ check_of T v
-      go zero p = absurd (omega (arith, number_least u mu))
-      go (suc i) p = sym (leader_check u mu) ∙ ap (check_of T) (sym (leader_at u mu i p) ∙ leader_at v mv i (sym e ∙ p)) ∙ leader_check v mv
+  same_number u v mu mv e =
+      let (i, inside, number, place) = leader_place u mu in
+      sym (leader_check u mu) ∙ ap (check_of T) (sym place ∙ leader_at v mv i (sym e ∙ number)) ∙ leader_check v mv
 
   -- at most one leader for each check number
   pub few_leaders : coset_count T ≤ S.q ^ T.checks.r
@@ -234,8 +225,8 @@ module _ (T : Scheme) (proper : Proper T) where
     abbrev w : ℕ
     w = blank n u i
 
-    pub blank_mark : MarkOf T w
-    blank_mark = put_mark S proper.alphabet n u i 0 mark q_some
+    w_mark : MarkOf T w
+    w_mark = blank_mark S proper.alphabet n u i mark
 
     whole : filled S n w i (digit u i) ≡ u
     whole = blank_filled S proper.alphabet n u i mark inside
@@ -248,7 +239,7 @@ module _ (T : Scheme) (proper : Proper T) where
 
     pub blank_before : before w u ≡ true
     blank_before =
-        subst (λ v. before w v ≡ true) blank_put (zero_first w i (digit u i) blank_mark.short inside blanked some (omega (arith, mark.symbols i, q_most)))
+        subst (λ v. before w v ≡ true) blank_put (zero_first w i (digit u i) w_mark.short inside blanked some (omega (arith, mark.symbols i, proper.alphabet.most)))
 
     -- the leader of its coset, filled as u is: it would rank before u in u's coset
     module _ (h : before (leader_of T w) w ≡ true) where
@@ -256,20 +247,20 @@ module _ (T : Scheme) (proper : Proper T) where
       v = filled S n (leader_of T w) i (digit u i)
 
       v_mark : MarkOf T v
-      v_mark = put_mark S proper.alphabet n (leader_of T w) i _ (leader_mark w blank_mark) (proper.alphabet.sum_symbol _ _)
+      v_mark = put_mark S proper.alphabet n (leader_of T w) i _ (leader_mark w w_mark) (proper.alphabet.sum_symbol _ _)
 
       v_before : before v u ≡ true
       v_before =
           subst (λ x. before v x ≡ true) whole
-          (filling_keeps (leader_of T w) w i (digit u i) (leader_mark w blank_mark) blank_mark h inside blanked some (mark.symbols i))
+          (filling_keeps (leader_of T w) w i (digit u i) (leader_mark w w_mark) w_mark h inside blanked some (mark.symbols i))
 
       v_check : check_of T v ≡ check_of T u
       v_check =
-          filled_same S proper.alphabet T.checks proper.check_symbols (leader_of T w) w i (digit u i) (leader_mark w blank_mark) blank_mark inside (mark.symbols i) (leader_check w blank_mark)
+          filled_same S proper.alphabet T.checks proper.check_symbols (leader_of T w) w i (digit u i) (leader_mark w w_mark) w_mark inside (mark.symbols i) (leader_check w w_mark)
           ∙ ap (check_of T) whole
 
       never : ⊥
       never = ⊎_elim (λ e. never_itself u (subst (λ x. before x u ≡ true) (sym e ∙ leader) v_before)) (λ k. never_two v u v_before (subst (λ x. before x v ≡ true) leader k)) (leader_first u mark v v_mark v_check)
 
     pub blank_leads : leader_of T w ≡ w
-    blank_leads = ⊎_elim (λ e. e) (λ h. absurd (never h)) (leader_first w blank_mark w blank_mark refl)
+    blank_leads = ⊎_elim (λ e. e) (λ h. absurd (never h)) (leader_first w w_mark w w_mark refl)

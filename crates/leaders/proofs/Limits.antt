@@ -1,19 +1,18 @@
 -- The limit: there are heads just where there are code words, and under a ranking by weight the first head weighs one more than the limit.
-use Rattle.std.proofs.Common.{◌≡◌, ℕ, zero, suc, ◌+◌, ◌-◌, ◌*◌, ◌/◌, ◌^◌, ◌<◌, ◌≤◌, Bool, true, ◌⊎◌, length, get_or, Decides, sym, refl, ap, ◌∙◌, subst, inl, inr, ⊎_elim, arith}
+use Rattle.std.proofs.Common.{◌≡◌, ℕ, zero, suc, ◌+◌, ◌-◌, ◌*◌, ◌/◌, ◌<◌, ◌≤◌, true, ◌⊎◌, length, get_or, Decides, sym, refl, ap, ◌∙◌, subst, inl, inr, ⊎_elim, arith}
 use Rattle.std.specs.List.{ContainsAt as Has}
 use Rattle.std.proofs.ByRecursion.{has_get_or}
 use Rattle.std.proofs.lemmas.List.{nil_from_length}
-use Rattle.std.proofs.lemmas.Bool.{cases_lt}
 use Rattle.std.proofs.lemmas.Bool.Decides.{Decides-and, Decides-eqb, Decides-not}
 use Rattle.algebra.specs.Marks.{minus, weight}
-use Rattle.algebra.specs.Symbols.{Symbols, Lawful}
+use Rattle.algebra.specs.Symbols.{Symbols}
 use Rattle.leaders.specs.Heads.{limit_of, heads, is_word, words, limit, Head, Word}
 use Rattle.leaders.specs.Leaders.{check_of, marks, leader_of}
 use Rattle.leaders.specs.Schemes.{Scheme, MarkOf, Proper}
 use Rattle.leaders.proofs.Adding.{zero_mark, minus_mark, minus_minus, minus_itself, minus_apart, differing_weight, minus_word, minus_same}
 use Rattle.leaders.proofs.Fronts.{front, front_digit, front_weight, front_mark}
 use Rattle.leaders.proofs.Heads.{heads_has, has_heads, heads_order, zero_leads, Seat, seat_of}
-use Rattle.leaders.proofs.Leaders.{never_two, mark_listed, listed_mark, leader_mark, leader_check, leader_same}
+use Rattle.leaders.proofs.Leaders.{no_heavier, mark_listed, listed_mark, leader_mark, leader_check, leader_same}
 use Rattle.leaders.proofs.Ranked.{has_none, kept_has, has_kept}
 use Rattle.leaders.proofs.Turns.{tail_before}
 use Rattle.leaders.proofs.Weights.{sits_weight, minus_weight, weight_some, weight_reaches, Least, least_of}
@@ -24,12 +23,6 @@ module _ (T : Scheme) (proper : Proper T) where
 
   abbrev n : ℕ
   n = T.checks.n
-
-  abbrev before : ℕ → ℕ → Bool
-  before = T.ranking.before
-
-  lawful : Lawful S
-  lawful = proper.alphabet
 
   -- the nonzero code words, and nothing else
   word_test : (c : ℕ) → Decides (is_word T c) ((c ≡ 0 → ⊥) × (check_of T c ≡ 0))
@@ -49,9 +42,9 @@ module _ (T : Scheme) (proper : Proper T) where
   -- a head and its tail differ by a word
   pub head_word : (h : ℕ) → Head T h → Word T (minus S n h (leader_of T h))
   head_word h head = record {
-    mark = minus_mark S lawful n h (leader_of T h);
-    some = λ e. head.misled (sym (minus_apart S lawful n h (leader_of T h) head.mark tail e));
-    check = minus_word S lawful T.checks proper.check_symbols h (leader_of T h) head.mark tail (sym (leader_check T proper h head.mark));
+    mark = minus_mark S proper.alphabet n h (leader_of T h);
+    some = λ e. head.misled (sym (minus_apart S proper.alphabet n h (leader_of T h) head.mark tail e));
+    check = minus_word S proper.alphabet T.checks proper.check_symbols h (leader_of T h) head.mark tail (sym (leader_check T proper h head.mark));
   }
     where
       tail : MarkOf T (leader_of T h)
@@ -60,12 +53,12 @@ module _ (T : Scheme) (proper : Proper T) where
   -- a word lies in the coset of 0, so it is no leader and a head sits in it
   zero_check : check_of T 0 ≡ 0
   zero_check =
-      let zeros = zero_mark S lawful n in
-      ap (check_of T) (sym (minus_itself S lawful n 0 zeros)) ∙ minus_word S lawful T.checks proper.check_symbols 0 0 zeros zeros refl
+      let zeros = zero_mark S proper.alphabet n in
+      ap (check_of T) (sym (minus_itself S proper.alphabet n 0 zeros)) ∙ minus_word S proper.alphabet T.checks proper.check_symbols 0 0 zeros zeros refl
 
   word_misled : (c : ℕ) → Word T c → leader_of T c ≡ c → ⊥
   word_misled c word e =
-      word.some (sym e ∙ leader_same T proper c 0 word.mark (zero_mark S lawful n) (word.check ∙ sym zero_check) ∙ zero_leads T proper)
+      word.some (sym e ∙ leader_same T proper c 0 word.mark (zero_mark S proper.alphabet n) (word.check ∙ sym zero_check) ∙ zero_leads T proper)
 
   pub word_seat : (c : ℕ) → Word T c → Seat T proper c
   word_seat c word = ⊎_elim (λ e. absurd (word_misled c word e)) (λ seat. seat) (seat_of T proper c word.mark)
@@ -81,19 +74,19 @@ module _ (T : Scheme) (proper : Proper T) where
 
   -- of a mark and that mark less a word, one is no leader: they lie in one coset
   word_splits : (c u : ℕ) → Word T c → MarkOf T u → Seat T proper u ⊎ Seat T proper (minus S n u c)
-  word_splits c u word mark = go (seat_of T proper u mark) (seat_of T proper v (minus_mark S lawful n u c))
+  word_splits c u word mark = go (seat_of T proper u mark) (seat_of T proper v (minus_mark S proper.alphabet n u c))
     where
       v : ℕ
       v = minus S n u c
 
       coset : check_of T v ≡ check_of T u
-      coset = minus_same S lawful T.checks proper.check_symbols u c mark word.mark word.check
+      coset = minus_same S proper.alphabet T.checks proper.check_symbols u c mark word.mark word.check
 
       apart : u ≡ v → ⊥
-      apart e = word.some (sym (minus_minus S lawful n u c mark word.mark) ∙ ap (minus S n u) (sym e) ∙ minus_itself S lawful n u mark)
+      apart e = word.some (sym (minus_minus S proper.alphabet n u c mark word.mark) ∙ ap (minus S n u) (sym e) ∙ minus_itself S proper.alphabet n u mark)
 
       go : (leader_of T u ≡ u) ⊎ Seat T proper u → (leader_of T v ≡ v) ⊎ Seat T proper v → Seat T proper u ⊎ Seat T proper v
-      go (inl e) (inl k) = absurd (apart (sym e ∙ sym (leader_same T proper v u (minus_mark S lawful n u c) mark coset) ∙ k))
+      go (inl e) (inl k) = absurd (apart (sym e ∙ sym (leader_same T proper v u (minus_mark S proper.alphabet n u c) mark coset) ∙ k))
       go (inl e) (inr seat) = inr seat
       go (inr seat) k = inl seat
 
@@ -126,13 +119,13 @@ module _ (T : Scheme) (proper : Proper T) where
             v = minus S n u c
 
             u_mark : MarkOf T u
-            u_mark = front_mark S lawful n c m word.mark inside
+            u_mark = front_mark S proper.alphabet n c m word.mark inside
 
             u_weight : weight n u ≡ (d + 1) / 2
             u_weight = front_weight n c m inside ∙ e
 
             v_weight : weight n v ≤ (d + 1) / 2
-            v_weight = omega (arith, sits_weight n u c (λ i _. front_digit c m i), differing_weight S lawful n u c u_mark word.mark, u_weight, least.is)
+            v_weight = omega (arith, sits_weight n u c (λ i _. front_digit c m i), differing_weight S proper.alphabet n u c u_mark word.mark, u_weight, least.is)
 
   -- the limit by the least weight of the words
   pub no_limit : length (words T) ≡ 0 → limit T ≡ n
@@ -148,15 +141,6 @@ module _ (T : Scheme) (proper : Proper T) where
   word_weight c word = let (d, least, e) = limit_least c word in omega (arith, least.most c (words_has c word), least_some d least)
 
   module _ (weighs : T.ranking.by_weight ≡ true) where
-    lighter : (u v : ℕ) → u < 4 ^ n → v < 4 ^ n → weight n u < weight n v → before u v ≡ true
-    lighter =
-        subst (λ m. (u v : ℕ) → u < 4 ^ m → v < 4 ^ m → weight m u < weight m v → before u v ≡ true)
-        proper.same_length (proper.ranks.lighter_first weighs)
-
-    no_heavier : (u v : ℕ) → MarkOf T u → MarkOf T v → before u v ≡ true → weight n u ≤ weight n v
-    no_heavier u v mu mv h =
-        ⊎_elim (λ l. absurd (never_two T proper u v h (lighter v u mv.short mu.short l))) (λ l. l) (cases_lt (weight n v) (weight n u))
-
     -- a head weighs more than the limit: with its tail, which is no heavier, as much as a word
     pub head_over : (h : ℕ) → Head T h → limit T < weight n h
     head_over h head =
@@ -165,8 +149,8 @@ module _ (T : Scheme) (proper : Proper T) where
           arith,
           least_some d least,
           least.most (minus S n h tail) (words_has (minus S n h tail) (head_word h head)),
-          minus_weight S lawful n h tail head.mark tail_mark,
-          no_heavier tail h tail_mark head.mark (tail_before T proper h head),
+          minus_weight S proper.alphabet n h tail head.mark tail_mark,
+          no_heavier T proper weighs tail h tail_mark head.mark (tail_before T proper h head),
         )
       where
         tail : ℕ
@@ -191,8 +175,8 @@ module _ (T : Scheme) (proper : Proper T) where
       pub first_lightest : (h : ℕ) → Has (heads T) h → weight n (get_or (heads T) 0 0) ≤ weight n h
       first_lightest h (zero, l, e) = omega (arith, ap (weight n) (e 0))
       first_lightest h (suc k, l, e) =
-          no_heavier first h first_head.mark (has_heads T proper h (suc k, l, e)).mark
-          (subst (λ x. before first x ≡ true) (e 0) (heads_order T proper 0 (suc k) (omega arith) l))
+          no_heavier T proper weighs first h first_head.mark (has_heads T proper h (suc k, l, e)).mark
+          (subst (λ x. T.ranking.before first x ≡ true) (e 0) (heads_order T proper 0 (suc k) (omega arith) l))
 
       pub limit_head : weight n (get_or (heads T) 0 0) ≡ limit T + 1
       limit_head =

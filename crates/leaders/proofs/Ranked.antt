@@ -1,13 +1,31 @@
 -- Lists of marks: the first in rank, ranking order, places in a list, all marks, and the pigeonhole.
-use Rattle.std.proofs.Common.{◌≡◌, ℕ, zero, suc, ◌+◌, ◌*◌, ◌/◌, ◌%◌, ◌^◌, ◌<◌, ◌≤◌, Bool, true, false, cond, eqb, ltb, ◌⊎◌, List, [], ◌∷◌, ◌++◌, map, length, get_or, filter, sym, refl, ap, ◌∙◌, subst, inl, inr, arith}
+use Rattle.std.proofs.Common.{◌≡◌, ℕ, zero, suc, ◌+◌, ◌*◌, ◌/◌, ◌%◌, ◌^◌, ◌<◌, ◌≤◌, Bool, true, false, cond, eqb, ◌⊎◌, List, [], ◌∷◌, ◌++◌, map, length, get_or, filter, sym, refl, ap, ◌∙◌, subst, inl, inr, ⊎_elim, arith}
 use native.Mathlib.Nat.{pow-succ'}
 use Rattle.std.specs.List.{range_with_len, ContainsAt as Has, flat_map, AllByRecursion}
+use Rattle.std.specs.List.Sorted.{IsPermutation}
+use Rattle.std.specs.List.{list_any, position_or_len}
+use Rattle.std.proofs.lemmas.List.{get_or_default, get_or-map, length-map}
+use Rattle.std.proofs.lemmas.List.Folds.{Any-from_list_any}
+use Rattle.std.proofs.lemmas.List.Kept.{AllPairs-filter}
+use Rattle.std.proofs.lemmas.List.Recursion.{is_position_or_len}
+use Rattle.std.proofs.lemmas.List.Sorted.{IsPermutation-cons, IsPermutation-middle, IsPermutation-refl, IsPermutation-trans}
+use Rattle.std.proofs.lemmas.List.Sums.{fails_before_first, passes_at_first, position_or_len_is}
+use Rattle.std.proofs.lemmas.Map.Keys.{IsDistinct-from_apart}
+use Rattle.std.proofs.lemmas.Map.Steps.{length-le_from_distinct_below}
 use Rattle.std.proofs.lemmas.List.FromFn.{get_or-map-range_with_len, length-map-range_with_len}
-use Rattle.std.proofs.ByRecursion.{All-append, All-from_get_or, All-get_or, all-has, all_has_itself, all_kept_by, All-weaker, has_append_left, has_append_right, kept_by_passes}
-use Rattle.std.proofs.lemmas.Bool.{cases_Bool, cond_both, cond-false, cond-true, eq-eqb, eqb-false, eqb-true, lt-ltb, ltb-false, ltb-true, ne_eqb, true≢false}
+use Rattle.std.proofs.ByRecursion.{All-append, All-from_get_or, All-get_or, all-has, all_has_itself, all_kept_by, all_shuffled, All-weaker, has_append_left, has_append_right, kept_by_passes}
+use Rattle.std.proofs.lemmas.Bool.{cases_Bool, cases_lt, cond_both, cond-false, cond-true, eq-eqb, eqb-true, ne_eqb, true≢false}
 use Rattle.algebra.specs.Digits.{digit}
-use Rattle.algebra.proofs.Digits.{digit_first, digit_joined_first, digit_joined_rest, digit_past, digit_rest}
+use Rattle.algebra.proofs.Digits.{digit_first, digit_joined_first, digit_joined_rest, digit_rest, zero_digit}
 use Rattle.leaders.specs.Leaders.{all_marks, first_ranked, insert, ranked, index_of}
+
+-- induction by all smaller numbers
+by_smaller_under : (P : ℕ → Type 0) → ((w : ℕ) → ((v : ℕ) → v < w → P v) → P w) → (m w : ℕ) → w < m → P w
+by_smaller_under P step zero w h = absurd (omega arith)
+by_smaller_under P step (suc m) w h = step w (λ v l. by_smaller_under P step m v (omega arith))
+
+pub by_smaller : (P : ℕ → Type 0) → ((w : ℕ) → ((v : ℕ) → v < w → P v) → P w) → (w : ℕ) → P w
+by_smaller P step w = by_smaller_under P step (suc w) w (omega arith)
 
 -- no number stands in the list twice
 abbrev pub Distinct : List ℕ → Type 0
@@ -35,16 +53,9 @@ has_more : (v : ℕ) (us ws : List ℕ) (u : ℕ) → (Has us u → Has ws u) �
 has_more v us ws u more h =
     elim (has_cases v us u h) [ inl e ↦ subst (Has (v ∷ ws)) e (has_here v ws) | inr k ↦ has_there v ws u (more k) ]
 
-has_swap : (v w : ℕ) (us : List ℕ) (u : ℕ) → Has (v ∷ w ∷ us) u → Has (w ∷ v ∷ us) u
-has_swap v w us u h =
-    elim (has_cases v (w ∷ us) u h) [
-      | inl e ↦ has_there w (v ∷ us) u (subst (Has (v ∷ us)) e (has_here v us))
-      | inr k ↦ has_more w us (v ∷ us) u (has_there v us u) k
-    ]
-
--- P holds of each number of us if it does of each of ws, and ws has them all
-all_within : (P : ℕ → Type 0) (us ws : List ℕ) → ((u : ℕ) → Has us u → Has ws u) → AllByRecursion P ws → AllByRecursion P us
-all_within P us ws within h = All-weaker (Has us) P (λ u k. all-has P ws u h (within u k)) us (all_has_itself us)
+-- what holds of every element, by membership
+pub all_from_has : (P : ℕ → Type 0) (us : List ℕ) → ((u : ℕ) → Has us u → P u) → AllByRecursion P us
+all_from_has P us h = All-weaker (Has us) P h us (all_has_itself us)
 
 -- R holds of each number of the list and each that stands later: Distinct and ranking order, for inductions
 abbrev Pairs : (ℕ → ℕ → Type 0) → List ℕ → Type 0
@@ -71,11 +82,17 @@ module _ (R : ℕ → ℕ → Type 0) where
   pairs_append [] ws h k across = k
   pairs_append (u ∷ us) ws h k across = (All-append (R u) us ws h.0 across.0, pairs_append us ws h.1 k across.1)
 
-  pairs_kept : (p : ℕ → Bool) (us : List ℕ) → Pairs R us → Pairs R (filter p us)
-  pairs_kept p [] h = tt
-  pairs_kept p (u ∷ us) h =
-      let rest = pairs_kept p us h.1 in
-      cond_both (p u) (u ∷ filter p us) (filter p us) (Pairs R) (λ _. (all_kept_by p (R u) us h.0, rest)) (λ _. rest)
+-- in ranking order a list has what it had
+insert_shuffled : (before : ℕ → ℕ → Bool) (u : ℕ) (vs : List ℕ) → IsPermutation (u ∷ vs) (insert before u vs)
+insert_shuffled before u [] = IsPermutation-refl _
+insert_shuffled before u (v ∷ vs) =
+    cond_both (before u v) (u ∷ v ∷ vs) (v ∷ insert before u vs) (IsPermutation (u ∷ v ∷ vs)) (λ _. IsPermutation-refl _)
+    (λ _. IsPermutation-trans _ _ _ (IsPermutation-middle (u ∷ []) v vs) (IsPermutation-cons v _ _ (insert_shuffled before u vs)))
+
+pub ranked_shuffled : (before : ℕ → ℕ → Bool) (us : List ℕ) → IsPermutation us (ranked before us)
+ranked_shuffled before [] = IsPermutation-refl _
+ranked_shuffled before (u ∷ us) =
+    IsPermutation-trans _ _ _ (IsPermutation-cons u _ _ (ranked_shuffled before us)) (insert_shuffled before u (ranked before us))
 
 -- a total order of the numbers of which P holds
 pub record Order (before : ℕ → ℕ → Bool) (P : ℕ → Type 0) : Type 0 where
@@ -91,13 +108,13 @@ module _ (before : ℕ → ℕ → Bool) (P : ℕ → Type 0) (order : Order bef
       cond_both (before v u) v u (λ w'. Has (w' ∷ us) x → Has (u ∷ v ∷ us) x)
       (λ _. has_there u (v ∷ us) x) (λ _. has_more u us (v ∷ us) x (has_there v us x)) (first_ranked_has w us)
 
-  abbrev Before : ℕ → ℕ → Type 0
+  abbrev pub Before : ℕ → ℕ → Type 0
   Before u v = before u v ≡ true
 
-  abbrev Upto : ℕ → ℕ → Type 0
+  abbrev pub Upto : ℕ → ℕ → Type 0
   Upto u v = (u ≡ v) ⊎ Before u v
 
-  upto_trans : (u v w : ℕ) → Upto u v → Upto v w → Upto u w
+  pub upto_trans : (u v w : ℕ) → Upto u v → Upto v w → Upto u w
   upto_trans u v w (inl e) k = subst (λ x. Upto x w) (sym e) k
   upto_trans u v w (inr h) (inl e) = subst (Upto u) e (inr h)
   upto_trans u v w (inr h) (inr k) = inr (order.transitive u v w h k)
@@ -123,43 +140,13 @@ module _ (before : ℕ → ℕ → Bool) (P : ℕ → Type 0) (order : Order bef
         ]
       ]
 
-  -- the inserted list is u in front of vs, in another order
-  insert_has : (u : ℕ) (vs : List ℕ) (x : ℕ) → Has (u ∷ vs) x → Has (insert before u vs) x
-  insert_has u [] x h = h
-  insert_has u (v ∷ vs) x h =
-      cond_both (before u v) (u ∷ v ∷ vs) (v ∷ insert before u vs) (λ l. Has l x)
-      (λ _. h) (λ _. has_more v (u ∷ vs) (insert before u vs) x (insert_has u vs x) (has_swap u v vs x h))
-
-  has_insert : (u : ℕ) (vs : List ℕ) (x : ℕ) → Has (insert before u vs) x → Has (u ∷ vs) x
-  has_insert u [] x = λ h. h
-  has_insert u (v ∷ vs) x =
-      cond_both (before u v) (u ∷ v ∷ vs) (v ∷ insert before u vs) (λ l. Has l x → Has (u ∷ v ∷ vs) x)
-      (λ _ h. h) (λ _ h. has_swap v u vs x (has_more v (insert before u vs) (u ∷ vs) x (has_insert u vs x) h))
-
-  length_insert : (u : ℕ) (vs : List ℕ) → length (insert before u vs) ≡ suc (length vs)
-  length_insert u [] = refl
-  length_insert u (v ∷ vs) =
-      cond_both (before u v) (u ∷ v ∷ vs) (v ∷ insert before u vs) (λ l. length l ≡ suc (suc (length vs))) (λ _. refl) (λ _. ap suc (length_insert u vs))
-
-  pub ranked_has : (us : List ℕ) (u : ℕ) → Has us u → Has (ranked before us) u
-  ranked_has [] u h = h
-  ranked_has (v ∷ us) u h = insert_has v (ranked before us) u (has_more v us (ranked before us) u (ranked_has us u) h)
-
-  pub has_ranked : (us : List ℕ) (u : ℕ) → Has (ranked before us) u → Has us u
-  has_ranked [] u h = h
-  has_ranked (v ∷ us) u h = has_more v (ranked before us) us u (has_ranked us u) (has_insert v (ranked before us) u h)
-
-  pub length_ranked : (us : List ℕ) → length (ranked before us) ≡ length us
-  length_ranked [] = refl
-  length_ranked (u ∷ us) = length_insert u (ranked before us) ∙ ap suc (length_ranked us)
-
   insert_order : (u : ℕ) (vs : List ℕ) → AllByRecursion P (u ∷ vs) → AllByRecursion (Other u) vs → Pairs Before vs → Pairs Before (insert before u vs)
   insert_order u [] all other h = (tt, tt)
   insert_order u (v ∷ vs) all other h =
       let rest = insert_order u vs (all.0, all.1.1) other.1 h.1 in
       cond_both (before u v) (u ∷ v ∷ vs) (v ∷ insert before u vs) (Pairs Before)
       (λ e. ((e, All-weaker (Before v) (Before u) (λ w. order.transitive u v w e) vs h.0), h))
-      (λ e. (all_within (Before v) (insert before u vs) (u ∷ vs) (has_insert u vs) (front e, h.0), rest))
+      (λ e. (all_shuffled (Before v) (u ∷ vs) (insert before u vs) (insert_shuffled before u vs) (front e, h.0), rest))
     where
       front : before u v ≡ false → Before v u
       front e = elim (not_after v u all.1.0 all.0 e) [ inl same ↦ absurd (other.0 (sym same)) | inr k ↦ k ]
@@ -167,33 +154,31 @@ module _ (before : ℕ → ℕ → Bool) (P : ℕ → Type 0) (order : Order bef
   ranked_pairs : (us : List ℕ) → AllByRecursion P us → Pairs Other us → Pairs Before (ranked before us)
   ranked_pairs [] all other = tt
   ranked_pairs (u ∷ us) all other =
-      insert_order u (ranked before us) (all.0, all_within P (ranked before us) us (has_ranked us) all.1)
-      (all_within (Other u) (ranked before us) us (has_ranked us) other.0) (ranked_pairs us all.1 other.1)
+      insert_order u (ranked before us) (all.0, all_shuffled P us (ranked before us) (ranked_shuffled before us) all.1)
+      (all_shuffled (Other u) us (ranked before us) (ranked_shuffled before us) other.0) (ranked_pairs us all.1 other.1)
 
   pub ranked_order : (us : List ℕ) → AllByRecursion P us → Distinct us → (i j : ℕ) → i < j → j < length (ranked before us) → before (get_or (ranked before us) i 0) (get_or (ranked before us) j 0) ≡ true
   ranked_order us all distinct = pairs_at Before (ranked before us) (ranked_pairs us all (pairs_from Other us distinct))
 
 -- where a number stands
-has_later : (v : ℕ) (us : List ℕ) (u : ℕ) → Has (v ∷ us) u → eqb v u ≡ false → Has us u
-has_later v us u h e = elim (has_cases v us u h) [ inl k ↦ absurd (eqb-false v u e k) | inr k ↦ k ]
+index_of_lem : (u : ℕ) (us : List ℕ) → index_of u us ≡ position_or_len (λ v. eqb v u) us
+index_of_lem u = is_position_or_len (index_of u) (λ v. eqb v u) refl (λ v us. ap (cond (eqb v u) 0) (omega arith))
 
 pub index_of_below : (us : List ℕ) (u : ℕ) → Has us u → index_of u us < length us
-index_of_below [] u h = absurd (omega (arith, h.1))
-index_of_below (v ∷ us) u h =
-    cond_both (eqb v u) 0 (suc (index_of u us)) (λ i. i < suc (length us)) (λ _. omega arith) (λ e. omega (arith, index_of_below us u (has_later v us u h e)))
+index_of_below us u (k, within, is) = ⊎_elim (λ h. h) (λ past. absurd (true≢false (sym (eq-eqb (get_or us k 0) u (is 0)) ∙ missed past))) (cases_lt (index_of u us) (length us))
+  where
+    missed : length us ≤ index_of u us → eqb (get_or us k 0) u ≡ false
+    missed past = fails_before_first (λ v. eqb v u) us k 0 (omega (arith, index_of_lem u us))
 
 pub get_or_index_of : (us : List ℕ) (u : ℕ) → Has us u → get_or us (index_of u us) 0 ≡ u
-get_or_index_of [] u h = absurd (omega (arith, h.1))
-get_or_index_of (v ∷ us) u h =
-    cond_both (eqb v u) 0 (suc (index_of u us)) (λ i. get_or (v ∷ us) i 0 ≡ u) (eqb-true v u) (λ e. get_or_index_of us u (has_later v us u h e))
+get_or_index_of us u h =
+    ap (λ i. get_or us i 0) (index_of_lem u us)
+    ∙ eqb-true _ u (passes_at_first (λ v. eqb v u) us 0 (omega (arith, index_of_lem u us, index_of_below us u h)))
 
 pub index_of_get_or : (us : List ℕ) → Distinct us → (i : ℕ) → i < length us → index_of (get_or us i 0) us ≡ i
-index_of_get_or [] distinct i h = absurd (omega arith)
-index_of_get_or (v ∷ us) distinct zero h = cond-true (eqb v v) 0 (suc (index_of v us)) (eq-eqb v v refl)
-index_of_get_or (v ∷ us) distinct (suc i) h =
-    let u : ℕ = get_or us i 0 in
-    cond-false (eqb v u) 0 (suc (index_of u us)) (ne_eqb v u (distinct 0 (suc i) (omega arith) h))
-    ∙ ap suc (index_of_get_or us (λ j k lt in'. distinct (suc j) (suc k) (omega arith) (omega arith)) i (omega arith))
+index_of_get_or us distinct i h =
+    index_of_lem (get_or us i 0) us
+    ∙ position_or_len_is (λ v. eqb v (get_or us i 0)) us i 0 (omega arith) (λ k lt. ne_eqb _ _ (distinct k i lt h)) (λ _. eq-eqb _ _ refl)
 
 -- what a test keeps of a list
 pub kept_has : (p : ℕ → Bool) (us : List ℕ) (u : ℕ) → Has us u → p u ≡ true → Has (filter p us) u
@@ -215,7 +200,8 @@ kept_first p (u ∷ us) (suc k) h none here =
     ∙ kept_first p us k (omega arith) (λ j l. none (suc j) (omega arith)) here
 
 pub kept_distinct : (p : ℕ → Bool) (us : List ℕ) → Distinct us → Distinct (filter p us)
-kept_distinct p us distinct = pairs_at Other (filter p us) (pairs_kept Other p us (pairs_from Other us distinct))
+kept_distinct p us distinct i j lt h =
+    AllPairs-filter Other p us (λ k l d m in' e. distinct k l m in' (get_or_default us k 0 d (omega arith) ∙ e ∙ get_or_default us l d 0 in')) i j 0 lt h
 
 -- the marks that have a symbol in front of u
 abbrev row : ℕ → ℕ → List ℕ
@@ -278,7 +264,7 @@ all_marks_symbols q n u some low = all-has Small (all_marks q n) u (marks_all (�
     Small v = (i : ℕ) → digit v i < q
 
     none : Small 0
-    none i = subst (λ d. d < q) (sym (digit_past 0 0 i (omega arith) (omega arith))) some
+    none i = subst (λ d. d < q) (sym (zero_digit i)) some
 
     more : (v a : ℕ) → a < q → Small v → Small (a + 4 * v)
     more v a lt h zero = subst (λ d. d < q) (sym (digit_joined_first a v (omega arith))) lt
@@ -305,40 +291,18 @@ marks_rise q (suc n) low = rows_rise q low (all_marks q n) (marks_rise q n low)
 pub all_marks_distinct : (q n : ℕ) → q ≤ 4 → Distinct (all_marks q n)
 all_marks_distinct q n low i j lt in' e = omega (arith, pairs_at ◌<◌ (all_marks q n) (marks_rise q n low) i j lt in')
 
-kept_all : (p : ℕ → Bool) (us : List ℕ) → AllByRecursion (λ u. p u ≡ true) us → filter p us ≡ us
-kept_all p [] h = refl
-kept_all p (u ∷ us) h = cond-true (p u) (u ∷ filter p us) (filter p us) h.0 ∙ ap (λ l. u ∷ l) (kept_all p us h.1)
-
 -- numbers that f keeps apart, all below a bound, are no more than the bound
-module _ (f : ℕ → ℕ) where
-  abbrev Apart : ℕ → ℕ → Type 0
-  Apart u v = Other (f u) (f v)
-
-  -- at most one of them has the top value, for where u has it the others are below
-  below_top : (top : ℕ) (us : List ℕ) → Pairs Apart us → AllByRecursion (λ u. f u < suc top) us → length us ≤ suc (length (filter (λ u. ltb (f u) top) us))
-  below_top top [] apart low = omega arith
-  below_top top (u ∷ us) apart low =
-      let p : ℕ → Bool = λ v. ltb (f v) top in
-      let rest = below_top top us apart.1 low.1 in
-      cond_both (p u) (u ∷ filter p us) (filter p us) (λ l. suc (length us) ≤ suc (length l)) (λ _. omega arith)
-      (λ e. omega (arith, ap length (kept_all p us (others e))))
-    where
-      others : ltb (f u) top ≡ false → AllByRecursion (λ v. ltb (f v) top ≡ true) us
-      others e =
-          All-from_get_or (λ v. ltb (f v) top ≡ true) us 0
-          (λ j in'. let v : ℕ = get_or us j 0 in
-          let other : f u ≡ f v → ⊥ = All-get_or (Apart u) us j 0 in' apart.0 in
-          lt-ltb (f v) top (omega (arith, ltb-false (f u) top e, All-get_or (λ w. f w < suc top) us j 0 in' low.1)))
-
-  within : (bound : ℕ) (us : List ℕ) → Pairs Apart us → AllByRecursion (λ u. f u < bound) us → length us ≤ bound
-  within zero [] apart low = omega arith
-  within zero (u ∷ us) apart low = absurd (omega arith)
-  within (suc bound) us apart low =
-      let p : ℕ → Bool = λ u. ltb (f u) bound in
-      let fewer : length (filter p us) ≤ bound =
-      within bound (filter p us) (pairs_kept Apart p us apart)
-      (All-weaker (λ u. p u ≡ true) (λ u. f u < bound) (λ u. ltb-true (f u) bound) (filter p us) (kept_by_passes p us))
-      in omega (arith, below_top bound us apart low)
-
 pub pigeonhole : (f : ℕ → ℕ) (bound : ℕ) (us : List ℕ) → ((i j : ℕ) → i < j → j < length us → f (get_or us i 0) ≡ f (get_or us j 0) → ⊥) → ((i : ℕ) → i < length us → f (get_or us i 0) < bound) → length us ≤ bound
-pigeonhole f bound us apart low = within f bound us (pairs_from (Apart f) us apart) (All-from_get_or (λ u. f u < bound) us 0 low)
+pigeonhole f bound us apart low =
+    omega (arith, length-map us f, length-le_from_distinct_below (map f us) bound (IsDistinct-from_apart eqb (map f us) distinct) below)
+  where
+    distinct : (i j d : ℕ) → i < j → j < length (map f us) → eqb (get_or (map f us) i d) (get_or (map f us) j d) ≡ false
+    distinct i j d lt h =
+        let k : j < length us = omega (arith, length-map us f) in
+        ne_eqb _ _ (λ e. apart i j lt k (sym (get_or-map f us i 0 d (omega arith)) ∙ e ∙ get_or-map f us j 0 d k))
+
+    below : (v : ℕ) → list_any (eqb v) (map f us) ≡ true → v < bound
+    below v h =
+        let (k, u, lt, is, e) = Any-from_list_any (eqb v) (map f us) h in
+        let l : k < length us = omega (arith, length-map us f) in
+        omega (arith, eqb-true v u e, is, get_or-map f us k 0 u l, low k l)

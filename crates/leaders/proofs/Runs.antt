@@ -1,15 +1,16 @@
 -- Runs: every run comes to the leader, in fewer turns than there are marks.
-use Rattle.std.proofs.Common.{◌≡◌, ℕ, zero, suc, ◌+◌, ◌^◌, ◌<◌, ◌≤◌, Bool, true, eqb, ◌⊎◌, List, length, get_or, filter, sym, refl, ap, ◌∙◌, subst, ap₂, inl, inr, ⊎_elim, arith}
+use Rattle.std.proofs.Common.{◌≡◌, ℕ, zero, suc, ◌+◌, ◌<◌, ◌≤◌, Bool, true, eqb, ◌⊎◌, List, length, get_or, filter, sym, refl, ap, ◌∙◌, subst, ap₂, inl, inr, ⊎_elim, arith}
 use Rattle.std.specs.List.{ContainsAt as Has}
 use Rattle.std.proofs.ByRecursion.{has_get_or}
+use Rattle.std.proofs.lemmas.List.Sorted.{length_permutation}
 use Rattle.std.proofs.lemmas.List.Sums.{count_by-le-length, length-filter}
 use Rattle.std.proofs.lemmas.Bool.{cases_lt, cond-false, cond-true, eq-eqb, ne_eqb}
 use Rattle.leaders.specs.Heads.{sitting, turn, Run, turns_from, turns, Head}
 use Rattle.leaders.specs.Leaders.{index_of, check_of, marks, leader_of}
 use Rattle.leaders.specs.Schemes.{Scheme, MarkOf, Proper}
 use Rattle.leaders.proofs.Heads.{has_sitting, no_head_leads}
-use Rattle.leaders.proofs.Leaders.{order, leader_same, passing, passing_has, passing_before}
-use Rattle.leaders.proofs.Ranked.{index_of_below, get_or_index_of, length_ranked}
+use Rattle.leaders.proofs.Leaders.{leader_same, passing, passing_has, passing_before}
+use Rattle.leaders.proofs.Ranked.{index_of_below, get_or_index_of, ranked_shuffled}
 use Rattle.leaders.proofs.Turns.{turn_mark, turn_check, turn_leader, turn_before}
 
 module _ (T : Scheme) (proper : Proper T) where
@@ -38,7 +39,7 @@ module _ (T : Scheme) (proper : Proper T) where
       omega (
         arith,
         rank_within w mark,
-        length_ranked before (λ u. u < 4 ^ T.checks.n) (order T proper) (filter (λ _. true) (marks T)),
+        length_permutation _ _ (ranked_shuffled before (filter (λ _. true) (marks T))),
         length-filter (λ _. true) (marks T),
         count_by-le-length (λ _. true) (marks T),
       )

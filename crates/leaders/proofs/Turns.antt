@@ -1,17 +1,17 @@
 -- A turn keeps the coset and makes a mark that ranks before, so no head sits in a leader.
-use Rattle.std.proofs.Common.{◌≡◌, ℕ, zero, suc, ◌<◌, Bool, true, ◌⊎◌, length, sym, refl, ap, ◌∙◌, subst, ap₂, inl, inr, ⊎_elim, arith}
+use Rattle.std.proofs.Common.{◌≡◌, ℕ, ◌<◌, true, ◌⊎◌, length, sym, refl, ap, ◌∙◌, subst, ap₂, inl, inr, ⊎_elim, arith}
 use Rattle.algebra.specs.Digits.{digit}
 use Rattle.algebra.specs.Marks.{blank, plus, minus}
-use Rattle.algebra.specs.Symbols.{Symbols, Lawful}
-use Rattle.algebra.proofs.Digits.{digit_past}
+use Rattle.algebra.specs.Symbols.{Symbols}
+use Rattle.algebra.proofs.Digits.{zero_digit}
 use Rattle.leaders.specs.Heads.{sitting, turn, Head, Sits}
 use Rattle.leaders.specs.Leaders.{check_of, leader_of}
 use Rattle.leaders.specs.Schemes.{Scheme, MarkOf, Proper}
-use Rattle.leaders.proofs.Adding.{zero_symbol, put_mark, plus_mark, minus_mark, plus_digit, minus_digit, plus_commutes, plus_none, plus_blank, minus_plus, plus_same, blank_here}
-use Rattle.leaders.proofs.Growth.{Top, top_of}
+use Rattle.leaders.proofs.Adding.{zero_symbol, blank_mark, plus_mark, minus_mark, plus_digit, minus_digit, plus_commutes, plus_none, plus_blank, minus_plus, plus_same, blank_here}
+use Rattle.leaders.proofs.Growth.{top_of}
 use Rattle.leaders.proofs.Heads.{has_sitting, blank_less, blank_sits}
 use Rattle.leaders.proofs.Leaders.{filling_keeps, never_itself, never_two, leader_mark, leader_check, leader_first, leader_same}
-use Rattle.leaders.proofs.Ranked.{has_none}
+use Rattle.leaders.proofs.Ranked.{by_smaller, has_none}
 
 module _ (T : Scheme) (proper : Proper T) where
   abbrev S : Symbols
@@ -20,30 +20,21 @@ module _ (T : Scheme) (proper : Proper T) where
   abbrev n : ℕ
   n = T.checks.n
 
-  abbrev before : ℕ → ℕ → Bool
-  before = T.ranking.before
-
-  lawful : Lawful S
-  lawful = proper.alphabet
-
   -- A mark added to two keeps their order, where it is 0 at each nonzero place of the later: its symbols are added one by one.
-  module _ (u v : ℕ) (mu : MarkOf T u) (mv : MarkOf T v) (h : before u v ≡ true) where
+  module _ (u v : ℕ) (mu : MarkOf T u) (mv : MarkOf T v) (h : T.ranking.before u v ≡ true) where
     abbrev Apart : ℕ → Type 0
     Apart c = (i : ℕ) → i < n → (digit v i ≡ 0) ⊎ (digit c i ≡ 0)
 
     abbrev Keeps : ℕ → Type 0
-    Keeps c = Apart c → before (plus S n u c) (plus S n v c) ≡ true
+    Keeps c = Apart c → T.ranking.before (plus S n u c) (plus S n v c) ≡ true
 
     keeps_zero : Keeps 0
-    keeps_zero apart = ap₂ before (plus_none S lawful n u 0 mu none) (plus_none S lawful n v 0 mv none) ∙ h
-      where
-        none : (i : ℕ) → i < n → digit 0 i ≡ 0
-        none i _ = digit_past 0 0 i (omega arith) (omega arith)
+    keeps_zero apart = ap₂ T.ranking.before (plus_none S proper.alphabet n u 0 mu (λ i _. zero_digit i)) (plus_none S proper.alphabet n v 0 mv (λ i _. zero_digit i)) ∙ h
 
     keeps_more : (c i : ℕ) → MarkOf T c → i < n → 0 < digit c i → Keeps (blank n c i) → Keeps c
     keeps_more c i mark inside some keeps apart =
-        ap₂ before (sym (plus_blank S lawful n u c i mu inside)) (sym (plus_blank S lawful n v c i mv inside))
-        ∙ filling_keeps T proper (plus S n u b) (plus S n v b) i (digit c i) (plus_mark S lawful n u b) (plus_mark S lawful n v b) (keeps b_apart) inside free some (mark.symbols i)
+        ap₂ T.ranking.before (sym (plus_blank S proper.alphabet n u c i mu inside)) (sym (plus_blank S proper.alphabet n v c i mv inside))
+        ∙ filling_keeps T proper (plus S n u b) (plus S n v b) i (digit c i) (plus_mark S proper.alphabet n u b) (plus_mark S proper.alphabet n v b) (keeps b_apart) inside free some (mark.symbols i)
       where
         b : ℕ
         b = blank n c i
@@ -53,26 +44,24 @@ module _ (T : Scheme) (proper : Proper T) where
 
         free : digit (plus S n v b) i ≡ 0
         free =
-            plus_digit S lawful n v b i inside
-            ∙ ap₂ S.sum (⊎_elim (λ k. k) (λ k. absurd (omega arith)) (apart i inside)) (blank_here S lawful n c i inside)
-            ∙ lawful.zero_adds_nothing 0 (zero_symbol S lawful)
+            plus_digit S proper.alphabet n v b i inside
+            ∙ ap₂ S.sum (⊎_elim (λ k. k) (λ k. absurd (omega arith)) (apart i inside)) (blank_here S proper.alphabet n c i inside)
+            ∙ proper.alphabet.zero_adds_nothing 0 (zero_symbol S proper.alphabet)
 
-    keeps_under : (m c : ℕ) → c < m → MarkOf T c → Keeps c
-    keeps_under zero c l mark = absurd (omega arith)
-    keeps_under (suc m) c l mark = go (top_of n c mark.short) (keeps_under m)
-      where
-        go : (c ≡ 0) ⊎ Top n c → ((b : ℕ) → b < m → MarkOf T b → Keeps b) → Keeps c
-        go (inl e) smaller = subst Keeps (sym e) keeps_zero
-        go (inr top) smaller =
-            let i : ℕ = top.place in
-            keeps_more c i mark top.inside top.some
-            (smaller (blank n c i) (omega (arith, blank_less T proper c i mark top.inside top.some)) (put_mark S lawful n c i 0 mark (zero_symbol S lawful)))
+    keeps : (c : ℕ) → ((b : ℕ) → b < c → MarkOf T b → Keeps b) → MarkOf T c → Keeps c
+    keeps c smaller mark =
+        ⊎_elim (λ e. subst Keeps (sym e) keeps_zero)
+        (λ top.
+        let i : ℕ = top.place in
+        keeps_more c i mark top.inside top.some
+        (smaller (blank n c i) (blank_less T proper c i mark top.inside top.some) (blank_mark S proper.alphabet n c i mark)))
+        (top_of n c mark.short)
 
-    pub adding_keeps : (c : ℕ) → MarkOf T c → ((i : ℕ) → i < n → (digit v i ≡ 0) ⊎ (digit c i ≡ 0)) → before (plus S n u c) (plus S n v c) ≡ true
-    adding_keeps c = keeps_under (suc c) c (omega arith)
+    pub adding_keeps : (c : ℕ) → MarkOf T c → ((i : ℕ) → i < n → (digit v i ≡ 0) ⊎ (digit c i ≡ 0)) → T.ranking.before (plus S n u c) (plus S n v c) ≡ true
+    adding_keeps = by_smaller (λ c. MarkOf T c → Keeps c) keeps
 
   -- a head's tail ranks before it
-  pub tail_before : (h : ℕ) → Head T h → before (leader_of T h) h ≡ true
+  pub tail_before : (h : ℕ) → Head T h → T.ranking.before (leader_of T h) h ≡ true
   tail_before h head = ⊎_elim (λ e. absurd (head.misled e)) (λ k. k) (leader_first T proper h head.mark h head.mark refl)
 
   module _ (h w : ℕ) (head : Head T h) (mark : MarkOf T w) where
@@ -83,40 +72,40 @@ module _ (T : Scheme) (proper : Proper T) where
     tail = leader_mark T proper h head.mark
 
     whole : plus S n h c ≡ w
-    whole = plus_commutes S lawful n h c ∙ minus_plus S lawful n w h mark head.mark
+    whole = plus_commutes S proper.alphabet n h c ∙ minus_plus S proper.alphabet n w h mark head.mark
 
     turned : plus S n (leader_of T h) c ≡ turn T h w
     unfolding turn
-    turned = plus_commutes S lawful n (leader_of T h) c
+    turned = plus_commutes S proper.alphabet n (leader_of T h) c
 
     pub turn_mark : MarkOf T (turn T h w)
-    turn_mark = subst (MarkOf T) turned (plus_mark S lawful n (leader_of T h) c)
+    turn_mark = subst (MarkOf T) turned (plus_mark S proper.alphabet n (leader_of T h) c)
 
     pub turn_check : check_of T (turn T h w) ≡ check_of T w
     turn_check =
         ap (check_of T) (sym turned)
-        ∙ plus_same S lawful T.checks proper.check_symbols (leader_of T h) h c tail head.mark (minus_mark S lawful n w h) (leader_check T proper h head.mark)
+        ∙ plus_same S proper.alphabet T.checks proper.check_symbols (leader_of T h) h c tail head.mark (minus_mark S proper.alphabet n w h) (leader_check T proper h head.mark)
         ∙ ap (check_of T) whole
 
     pub turn_leader : leader_of T (turn T h w) ≡ leader_of T w
     turn_leader = leader_same T proper (turn T h w) w turn_mark mark turn_check
 
-    pub turn_before : Sits T h w → before (turn T h w) w ≡ true
+    pub turn_before : Sits T h w → T.ranking.before (turn T h w) w ≡ true
     turn_before sits =
-        ap₂ before (sym turned) (sym whole)
-        ∙ adding_keeps (leader_of T h) h tail head.mark (tail_before h head) c (minus_mark S lawful n w h) apart
+        ap₂ T.ranking.before (sym turned) (sym whole)
+        ∙ adding_keeps (leader_of T h) h tail head.mark (tail_before h head) c (minus_mark S proper.alphabet n w h) apart
       where
         apart : (i : ℕ) → i < n → (digit h i ≡ 0) ⊎ (digit c i ≡ 0)
         apart i l =
             ⊎_elim (λ e. inl e)
-            (λ e. inr (minus_digit S lawful n w h i l ∙ ap (λ x. S.sum x (S.opposite (digit h i))) (sym e) ∙ lawful.opposite_cancels (digit h i) (head.mark.symbols i)))
+            (λ e. inr (minus_digit S proper.alphabet n w h i l ∙ ap (λ x. S.sum x (S.opposite (digit h i))) (sym e) ∙ proper.alphabet.opposite_cancels (digit h i) (head.mark.symbols i)))
             (sits i l)
 
     -- so no head sits in a leader
     pub leader_bare : leader_of T w ≡ w → Sits T h w → ⊥
     leader_bare e sits =
-        ⊎_elim (λ k. never_itself T proper w (subst (λ x. before x w ≡ true) (sym k ∙ e) (turn_before sits)))
-        (λ k. never_two T proper (turn T h w) w (turn_before sits) (subst (λ x. before x (turn T h w) ≡ true) e k))
+        ⊎_elim (λ k. never_itself T proper w (subst (λ x. T.ranking.before x w ≡ true) (sym k ∙ e) (turn_before sits)))
+        (λ k. never_two T proper (turn T h w) w (turn_before sits) (subst (λ x. T.ranking.before x (turn T h w) ≡ true) e k))
         (leader_first T proper w mark (turn T h w) turn_mark turn_check)
 
   pub leader_alone : (w : ℕ) → MarkOf T w → leader_of T w ≡ w → length (sitting T w) ≡ 0

@@ -6,7 +6,7 @@ use Rattle.std.proofs.lemmas.Bool.Decides.{nat_tests}
 use Rattle.algebra.specs.Digits.{digit, total}
 use Rattle.algebra.specs.Marks.{Mark, minus, nonzero, weight}
 use Rattle.algebra.specs.Symbols.{Symbols, Lawful}
-use Rattle.algebra.proofs.Digits.{total_top}
+use Rattle.algebra.proofs.Digits.{total_term, total_top}
 use Rattle.algebra.proofs.Rankings.{nonzero_one}
 use Rattle.leaders.specs.Heads.{least_weight, limit_of}
 use Rattle.leaders.specs.Leaders.{differing}
@@ -26,26 +26,13 @@ total_most zero f g h e = omega arith
 total_most (suc n) f g h e =
     omega (arith, e 0 (omega arith), total_most n (λ i. f (suc i)) (λ i. g (suc i)) (λ i. h (suc i)) (λ i l. e (suc i) (omega arith)))
 
-total_term : (n : ℕ) (f : ℕ → ℕ) (i : ℕ) → i < n → f i ≤ total n f
-unfolding total
-total_term zero f i h = absurd (omega arith)
-total_term (suc n) f zero h = omega arith
-total_term (suc n) f (suc i) h = omega (arith, total_term n (λ j. f (suc j)) i (omega arith))
-
 -- a mark weighs as much as one that sits in it and what they differ by
 pub sits_weight : (n u w : ℕ) → ((i : ℕ) → i < n → (digit u i ≡ 0) ⊎ (digit u i ≡ digit w i)) → weight n u + differing n u w ≡ weight n w
-sits_weight n u w sits = total_sum n _ _ _ (λ i l. at i (sits i l))
-  where
-    at : (i : ℕ) → (digit u i ≡ 0) ⊎ (digit u i ≡ digit w i) → nonzero (digit u i) + cond (eqb (digit u i) (digit w i)) 0 1 ≡ nonzero (digit w i)
-    at i (inl e) = grind (arith, nat_tests)
-    at i (inr e) = grind (arith, nat_tests)
+sits_weight n u w sits = total_sum n _ _ _ (λ i l. grind (arith, nat_tests, sits i l))
 
 pub minus_weight : (S : Symbols) → Lawful S → (n u v : ℕ) → Mark S n u → Mark S n v → weight n (minus S n u v) ≤ weight n u + weight n v
 minus_weight S lawful n u v mu mv =
-    omega (arith, differing_weight S lawful n u v mu mv, total_most n (λ i. cond (eqb (digit u i) (digit v i)) 0 1) (λ i. nonzero (digit u i)) (λ i. nonzero (digit v i)) (λ i _. at i))
-  where
-    at : (i : ℕ) → cond (eqb (digit u i) (digit v i)) 0 1 ≤ nonzero (digit u i) + nonzero (digit v i)
-    at i = grind (arith, nat_tests)
+    omega (arith, differing_weight S lawful n u v mu mv, total_most n (λ i. cond (eqb (digit u i) (digit v i)) 0 1) (λ i. nonzero (digit u i)) (λ i. nonzero (digit v i)) (λ i _. grind (arith, nat_tests)))
 
 -- only 0 weighs nothing
 pub weight_some : (n u : ℕ) → u < 4 ^ n → (u ≡ 0 → ⊥) → 0 < weight n u

@@ -1,60 +1,39 @@
 -- Where the first line ends, and what taking it leaves.
-use Rattle.std.proofs.Common.{◌≡◌, ℕ, ◌+◌, ◌-◌, ◌<◌, ◌≤◌, true, false, cond, eqb, List, [], ◌∷◌, ◌++◌, length, get_or, take, drop, Some, None, refl, ap, ◌∙◌, arith}
-use Rattle.std.proofs.lemmas.List.{append-nil, append_assoc, take_more, at_drop_more, at_drop_all, take_all}
-use Rattle.std.proofs.lemmas.Bool.{eq-eqb, ne_eqb, cond-true, cond-false}
-use Rattle.lines.specs.Input.{on_first, lines_of, first_line, after_line, Takes}
+use Rattle.std.specs.Prelude.{◌≡◌, ℕ, suc, ◌+◌, ◌-◌, ◌≤◌, List, [], ◌∷◌, length, false, take, drop, Some, None, ◌==◌}
+use Rattle.std.specs.List.{position_or_len}
+use Rattle.std.proofs.Common.{refl, ap, arith}
+use Rattle.std.proofs.lemmas.List.{take_all, take_rest, drop_all}
+use Rattle.std.proofs.lemmas.Grind.{common_steps}
+use Rattle.lines.specs.Input.{lines_of, first_line, after_line, Takes}
 
--- the first line has no end among the first `at` bytes
-abbrev pub Unended : List ℕ → ℕ → Type 0
-Unended bytes at = (first_line bytes ≡ take at bytes ++ first_line (drop at bytes)) × (after_line bytes ≡ after_line (drop at bytes))
+take_front : (n byte : ℕ) (bytes : List ℕ) → take (1 + n) (byte ∷ bytes) ≡ byte ∷ take n bytes
+take_front n byte bytes = let next : 1 + n ≡ suc n = omega arith in rw next refl
 
-module _ (bytes : List ℕ) (at : ℕ) (before : Unended bytes at) where
-  -- at a newline
-  pub ends_here : at < length bytes → get_or bytes at 0 ≡ 10 → (take at bytes ≡ first_line bytes) × (drop (at + 1) bytes ≡ after_line bytes)
-  ends_here h e =
-      let line = at_drop_more first_line bytes at 0 h ∙ cond-true _ _ _ (eq-eqb _ 10 e) in
-      let left = at_drop_more after_line bytes at 0 h ∙ cond-true _ _ _ (eq-eqb _ 10 e) in
-      let whole = append-nil (take at bytes) in
-      (cc, cc)
+pub to_newline : (bytes : List ℕ) → first_line bytes ≡ take (position_or_len (λ byte. byte == 10) bytes) bytes
+to_newline [] = refl
+to_newline (byte ∷ bytes) = grind (arith, common_steps, to_newline bytes, take_front)
 
-  -- at any other byte
-  pub goes_on : at < length bytes → (get_or bytes at 0 ≡ 10 → ⊥) → Unended bytes (at + 1)
-  goes_on h e =
-      let line = at_drop_more first_line bytes at 0 h ∙ cond-false _ _ _ (ne_eqb _ 10 e) in
-      let left = at_drop_more after_line bytes at 0 h ∙ cond-false _ _ _ (ne_eqb _ 10 e) in
-      let one = take_more bytes at 0 h in
-      let joined = append_assoc (take at bytes) (get_or bytes at 0 ∷ []) (first_line (drop (at + 1) bytes)) in
-      (cc, cc)
+pub past_newline : (bytes : List ℕ) → after_line bytes ≡ drop (position_or_len (λ byte. byte == 10) bytes + 1) bytes
+past_newline [] = refl
+past_newline (byte ∷ bytes) = grind (arith, common_steps, past_newline bytes)
 
-  -- where the input ends
-  pub ends_last : length bytes ≤ at → (bytes ≡ first_line bytes) × ([] ≡ after_line bytes)
-  ends_last h =
-      let line = at_drop_all first_line bytes at h in
-      let left = at_drop_all after_line bytes at h in
-      let all = take_all at bytes h in
-      let whole = append-nil (take at bytes) in
-      (cc, cc)
+pub ruleset newline_laws = (to_newline, past_newline, take_all, take_rest, drop_all)
 
 pub left_shorter : (bytes : List ℕ) → length (after_line bytes) ≤ length bytes - 1
 left_shorter [] = omega arith
-left_shorter (byte ∷ bytes) =
-    elim (eqb byte 10) as (λ t. length (cond t bytes (after_line bytes)) ≤ length (byte ∷ bytes) - 1)
-    [ true ↦ omega arith | false ↦ omega (arith, left_shorter bytes) ]
+left_shorter (byte ∷ bytes) = grind (arith, common_steps, left_shorter bytes)
 
 -- the first line stands before the lines of what is left
 first_and_others : (byte : ℕ) (bytes : List ℕ) → lines_of (byte ∷ bytes) ≡ first_line (byte ∷ bytes) ∷ lines_of (after_line (byte ∷ bytes))
-first_and_others byte [] =
-    elim (eqb byte 10) as (λ t. cond t ([] ∷ []) ((byte ∷ []) ∷ []) ≡ cond t [] (byte ∷ []) ∷ lines_of (cond t [] []))
-    [ true ↦ refl | false ↦ refl ]
-first_and_others byte (next ∷ bytes) =
-    let rest : List ℕ = next ∷ bytes in
-    elim (eqb byte 10) as (λ t. cond t ([] ∷ lines_of rest) (on_first byte (lines_of rest)) ≡ cond t [] (byte ∷ first_line rest) ∷ lines_of (cond t rest (after_line rest)))
-    [ true ↦ refl | false ↦ ap (on_first byte) (first_and_others next bytes) ]
+first_and_others byte [] = grind (arith, common_steps)
+first_and_others byte (next ∷ bytes) = grind (arith, common_steps, first_and_others next bytes)
 
 pub takes_none : (bytes : List ℕ) → length bytes ≡ 0 → Takes bytes None bytes
 takes_none [] h = record { line = refl; left = refl; lines = refl }
 takes_none (byte ∷ bytes) h = absurd (omega arith)
 
-pub takes_line : (bytes line left : List ℕ) → 0 < length bytes → line ≡ first_line bytes → left ≡ after_line bytes → Takes bytes (Some line) left
-takes_line [] line left h e f = absurd (omega arith)
+pub takes_line : (bytes line left : List ℕ) → (length bytes == 0) ≡ false → line ≡ first_line bytes → left ≡ after_line bytes → Takes bytes (Some line) left
+takes_line [] line left h e f = absurd (cc)
 takes_line (byte ∷ bytes) line left h e f = record { line = ap Some e; left = f; lines = let split = first_and_others byte bytes in cc }
+
+pub ruleset taking_laws = (takes_none, left_shorter)

@@ -1,5 +1,5 @@
 // The lines of an input, and the symbols of a line.
-ghost use Rattle.std.specs.Prelude.{◌≡◌, map, length, IfOk};
+ghost use Rattle.std.specs.Prelude.{◌≡◌, map, length, IfOk, position, ◌==◌};
 ghost use Rattle.std.specs.Option.{option_map};
 ghost use Rattle.lines.specs.Input.{Takes, unread, first_line, after_line, symbol_of};
 ghost use Rattle.std.specs.Iterator.{at_most};
@@ -8,7 +8,8 @@ use std::alloc::{AllocError, Global};
 use std::io;
 use std::io::BufRead;
 
-// What `symbol` answers where a character is no symbol: no alphabet has it.
+// What `symbol` answers where a character is no symbol: a byte and no `Option`, as a mark's reader takes bytes, and refuses
+// this one.
 pub const NO_SYMBOL: u8 = 4;
 
 // The lines of an input, one after the other. A line ends at a newline or where the input ends.
@@ -32,6 +33,7 @@ impl<'a> Iterator for Lines<'a> {
 
     ghost remaining = { λ lines. at_most (length (unread lines)) };
 
+    #[tactic(auto, using(crate::proofs::Lines::taking_laws))]
     fn next(&mut self) -> Option<&'a [u8]> {
         if self.rest.is_empty() {
             return None;
@@ -42,20 +44,27 @@ impl<'a> Iterator for Lines<'a> {
     }
 }
 
+// Where the first newline is.
+fn newline(bytes: &[u8]) -> Option<usize>
+    ensures { result ≡ position (λ byte. byte == 10) bytes.now }
+{
+    bytes.iter().position(|byte| *byte == b'\n')
+}
+
 // The bytes before the first newline, and those after it, which belongs to neither.
+#[tactic(auto, using(crate::proofs::Lines::newline_laws))]
 fn cut(bytes: &[u8]) -> (&[u8], &[u8])
     ensures line { result.0.now ≡ first_line bytes.now }
     ensures left { result.1.now ≡ after_line bytes.now }
 {
-    for (at, byte) in bytes.iter().enumerate() {
-        if *byte == b'\n' {
-            return (&bytes[0..at], &bytes[at + 1..]);
-        }
+    match newline(bytes) {
+        Some(at) => (&bytes[..at], &bytes[at + 1..]),
+        None => (bytes, &[]),
     }
-    (bytes, &[])
 }
 
-// At most as many lines of a reader as are wanted. What a reader gives no contract can say.
+// At most as many lines of a reader as are wanted, each with its end, which `BufRead::lines` and `split` would take off. What a
+// reader gives no contract can say.
 pub fn first_lines(heap: Global, reader: &mut impl BufRead, most: usize) -> io::Result<Vec<u8>> {
     let mut input = Vec::new(heap);
     for _ in 0..most {
@@ -81,11 +90,9 @@ pub fn symbol(character: u8) -> u8
 pub fn symbols(heap: Global, line: &[u8]) -> Result<Vec<u8>, AllocError>
     ensures { IfOk result (λ found. found.items ≡ map symbol_of line.now) }
 {
-    let mut found = Vec::new(heap);
-    for character in line {
-        found.push(symbol(*character))?;
-    }
-    Ok(found)
+    line.iter()
+        .map(|character| symbol(*character))
+        .collect(heap)
 }
 
 #[cfg(test)]

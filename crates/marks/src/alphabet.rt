@@ -1,18 +1,17 @@
 // The symbols of a dot: how many there are, and how they add and multiply.
-ghost use Rattle.std.specs.Prelude.{◌≡◌, ◌≤◌};
-ghost use Rattle.algebra.specs.Symbols.{Symbols, Lawful, modulo, bits, thirds, quads};
-ghost use Rattle.algebra.proofs.Symbols.{bits_lawful, thirds_lawful, quads_lawful};
+ghost use Rattle.std.specs.Prelude.{◌≡◌, ℕ, ◌≤◌, refl};
+ghost use Rattle.std.proofs.Common.{lit≤};
+ghost use Rattle.algebra.specs.Symbols.{Symbols, Lawful, modulo, quads};
+ghost use Rattle.algebra.proofs.Symbols.{modulo_lawful, quads_lawful};
 
 // An alphabet means its `symbols`: a count and plain functions, which keep the laws.
 // Given a number that is no symbol, each operation answers 0.
 pub trait Alphabet {
     const Q: u8;
 
-    ghost symbols: { Symbols };
+    ghost Q: { ℕ };
 
-    // The constant `Q`, tied to the meaning: a law cannot name a constant.
-    fn count(&self) -> u8
-        ensures { result ≡ symbols.q };
+    ghost symbols: { Symbols };
 
     fn sum(&self, s: u8, t: u8) -> u8
         ensures { result ≡ symbols.sum s t };
@@ -23,84 +22,70 @@ pub trait Alphabet {
     fn product(&self, s: u8, h: u8) -> u8
         ensures { result ≡ symbols.product s h };
 
+    ghost counted: { Q ≡ symbols.q };
+
     ghost lawful: { Lawful symbols };
 }
 
-pub(crate) fn sum_modulo(q: u8, s: u8, t: u8) -> u8
-    requires { (2 ≤ q) × (q ≤ 4) }
-    ensures { result ≡ (modulo q).sum s t }
-{
-    if s < q && t < q { (s + t) % q } else { 0 }
+// Symbols that add and multiply modulo their count.
+pub trait Modular {
+    const COUNT: u8;
+
+    ghost COUNT: { ℕ };
+
+    ghost bounded: { (2 ≤ COUNT) × (COUNT ≤ 4) };
 }
 
-pub(crate) fn opposite_modulo(q: u8, s: u8) -> u8
-    requires { (2 ≤ q) × (q ≤ 4) }
-    ensures { result ≡ (modulo q).opposite s }
-{
-    if s < q { (q - s) % q } else { 0 }
-}
+impl<M: Modular> Alphabet for M {
+    const Q: u8 = M::COUNT;
 
-pub(crate) fn product_modulo(q: u8, s: u8, h: u8) -> u8
-    requires { (2 ≤ q) × (q ≤ 4) }
-    ensures { result ≡ (modulo q).product s h }
-{
-    if s < q && h < q { s * h % q } else { 0 }
+    ghost Q = { M.COUNT };
+
+    ghost symbols = { modulo M.COUNT };
+
+    ghost counted = { refl };
+
+    ghost lawful = { modulo_lawful M.COUNT M.bounded.0 M.bounded.1 };
+
+    fn sum(&self, s: u8, t: u8) -> u8 {
+        let q = Self::Q;
+        if s < q && t < q { (s + t) % q } else { 0 }
+    }
+
+    fn opposite(&self, s: u8) -> u8 {
+        let q = Self::Q;
+        if s < q { (q - s) % q } else { 0 }
+    }
+
+    // Beside `sum` no closure for the two: `+` and `%` are as short as its call.
+    fn product(&self, s: u8, h: u8) -> u8 {
+        let q = Self::Q;
+        if s < q && h < q { s * h % q } else { 0 }
+    }
 }
 
 // Two symbols, modulo 2.
 #[derive(Clone, Copy)]
 pub struct Bits;
 
-impl Alphabet for Bits {
-    const Q: u8 = 2;
+impl Modular for Bits {
+    const COUNT: u8 = 2;
 
-    ghost symbols = { bits };
+    ghost COUNT = { 2 };
 
-    ghost lawful = { bits_lawful };
-
-    fn count(&self) -> u8 {
-        Self::Q
-    }
-
-    fn sum(&self, s: u8, t: u8) -> u8 {
-        sum_modulo(Self::Q, s, t)
-    }
-
-    fn opposite(&self, s: u8) -> u8 {
-        opposite_modulo(Self::Q, s)
-    }
-
-    fn product(&self, s: u8, h: u8) -> u8 {
-        product_modulo(Self::Q, s, h)
-    }
+    ghost bounded = { (lit≤ tt, lit≤ tt) };
 }
 
 // Three symbols, modulo 3.
 #[derive(Clone, Copy)]
 pub struct Thirds;
 
-impl Alphabet for Thirds {
-    const Q: u8 = 3;
+impl Modular for Thirds {
+    const COUNT: u8 = 3;
 
-    ghost symbols = { thirds };
+    ghost COUNT = { 3 };
 
-    ghost lawful = { thirds_lawful };
-
-    fn count(&self) -> u8 {
-        Self::Q
-    }
-
-    fn sum(&self, s: u8, t: u8) -> u8 {
-        sum_modulo(Self::Q, s, t)
-    }
-
-    fn opposite(&self, s: u8) -> u8 {
-        opposite_modulo(Self::Q, s)
-    }
-
-    fn product(&self, s: u8, h: u8) -> u8 {
-        product_modulo(Self::Q, s, h)
-    }
+    ghost bounded = { (lit≤ tt, lit≤ tt) };
 }
 
 // Four symbols: the field of four elements, where every symbol is its own opposite.
@@ -115,13 +100,13 @@ const THRICE: [u8; 4] = [0, 3, 1, 2];
 impl Alphabet for Quads {
     const Q: u8 = 4;
 
+    ghost Q = { 4 };
+
     ghost symbols = { quads };
 
-    ghost lawful = { quads_lawful };
+    ghost counted = { refl };
 
-    fn count(&self) -> u8 {
-        Self::Q
-    }
+    ghost lawful = { quads_lawful };
 
     fn sum(&self, s: u8, t: u8) -> u8 {
         if s < 4 && t < 4 { s ^ t } else { 0 }

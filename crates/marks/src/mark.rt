@@ -1,8 +1,9 @@
 // A mark packed into 64 bits, two bits a place, the first place lowest. Places count from 0 here, and from 1 in a refusal.
-ghost use Rattle.std.specs.Prelude.{◌≡◌, ℕ, ◌*◌, ◌%◌, ◌^◌, ◌<◌, ◌≤◌, min, length, IfOk, slice_index};
+ghost use Rattle.std.specs.Prelude.{◌≡◌, ℕ, ◌*◌, ◌%◌, ◌^◌, ◌<◌, min, length, IfOk};
 ghost use Rattle.algebra.specs.Digits.{digit};
 ghost use Rattle.algebra.specs.Marks.{number_of, bytes_of, put, blank as blanked, plus as sum_of, minus as difference_of, weight as weight_of};
 ghost use Rattle.marks.specs.Reading.{first_outside, reading};
+ghost use Rattle.marks.specs.Symbols.{SymbolsOf};
 
 use crate::alphabet::Alphabet;
 use refusals::Refusal;
@@ -15,16 +16,11 @@ pub struct Mark {
     pub number: u64,
 }
 
-// The index of the first byte that is no symbol below `q`, or the length where each one is.
-fn first_outside(q: u8, bytes: &[u8]) -> usize
+// The index of the first byte that is no symbol below `q`.
+pub fn first_outside(q: u8, bytes: &[u8]) -> Option<usize>
     ensures { result ≡ first_outside q bytes.now }
 {
-    for (i, symbol) in bytes.iter().enumerate() {
-        if *symbol >= q {
-            return i;
-        }
-    }
-    bytes.len()
+    bytes.iter().position(|symbol| *symbol >= q)
 }
 
 // A symbol as the digit of a place.
@@ -35,35 +31,32 @@ fn digit_at(symbol: u8, place: usize) -> u64
     u64::from(symbol) << (2 * place)
 }
 
-// The bytes as digits.
-fn pack(bytes: &[u8]) -> u64
-    requires short { length bytes.now ≤ 32 }
-    requires digits { (i : ℕ) → i < length bytes.now → slice_index bytes.now i < 4 }
-    ensures { result ≡ number_of bytes.now }
-{
-    let mut number = 0;
-    for (i, symbol) in bytes.iter().enumerate() {
-        number += digit_at(*symbol, i);
-    }
-    number
-}
-
 impl Mark {
+    // The mark with these symbols at the first n places, of 32 at most; of each the two low bits count.
+    pub fn from_fn<F: Fn(usize) -> u8>(n: usize, symbol: F) -> Mark
+        requires { (i : ℕ) → i < min n 32 → F.pre symbol i }
+        ensures { SymbolsOf (F.post symbol) (min n 32) result.number }
+    {
+        let mut number = 0;
+        // The one loop over the places of a mark: a chain that ends in `sum` would need each digit's bound in its closure.
+        for i in 0..n.min(PLACES) {
+            number += digit_at(symbol(i) & 3, i);
+        }
+        Mark { number }
+    }
+
     // The mark of n places that the bytes spell, one symbol each.
-    pub fn read<A: Alphabet>(alphabet: &A, n: usize, bytes: &[u8]) -> Result<Mark, Refusal>
+    pub fn read<A: Alphabet>(n: usize, bytes: &[u8]) -> Result<Mark, Refusal>
         ensures value { result ≡ reading A.symbols n bytes.now }
         ensures back { IfOk result (λ mark. bytes_of n mark.number ≡ bytes.now) }
     {
         if bytes.len() != n || n > PLACES {
             return Err(Refusal::MarkLength);
         }
-        let place = first_outside(alphabet.count(), bytes);
-        if place < n {
+        if let Some(place) = first_outside(A::Q, bytes) {
             return Err(Refusal::MarkSymbol(place + 1));
         }
-        Ok(Mark {
-            number: pack(bytes),
-        })
+        Ok(Mark::from_fn(n, |i| bytes[i]))
     }
 
     // Writes the symbols of the first places, as many as the buffer has bytes.
@@ -108,23 +101,16 @@ impl Mark {
     pub fn plus<A: Alphabet>(self, alphabet: &A, n: usize, other: Mark) -> Mark
         ensures { result.number ≡ sum_of A.symbols (min n 32) self.number other.number }
     {
-        let mut number = 0;
-        for i in 0..n.min(PLACES) {
-            number += digit_at(alphabet.sum(self.symbol(i), other.symbol(i)), i);
-        }
-        Mark { number }
+        Mark::from_fn(n, |i| alphabet.sum(self.symbol(i), other.symbol(i)))
     }
 
     // The difference of the first n places, of 32 at most.
     pub fn minus<A: Alphabet>(self, alphabet: &A, n: usize, other: Mark) -> Mark
         ensures { result.number ≡ difference_of A.symbols (min n 32) self.number other.number }
     {
-        let mut number = 0;
-        for i in 0..n.min(PLACES) {
-            let opposite = alphabet.opposite(other.symbol(i));
-            number += digit_at(alphabet.sum(self.symbol(i), opposite), i);
-        }
-        Mark { number }
+        Mark::from_fn(n, |i| {
+            alphabet.sum(self.symbol(i), alphabet.opposite(other.symbol(i)))
+        })
     }
 
     // Folds each place's two bits into the lower one, and counts the ones.

@@ -1,18 +1,15 @@
 // Marks over the three alphabets, and over a lawful one that is none of them.
-ghost use Rattle.algebra.specs.Symbols.{modulo};
-ghost use Rattle.std.specs.Prelude.{refl};
 ghost use Rattle.std.proofs.Common.{lit≤};
-ghost use Rattle.algebra.proofs.Symbols.{lawful_by_test};
 
-use crate::alphabet::{Alphabet, Bits, Quads, Thirds, opposite_modulo, product_modulo, sum_modulo};
+use crate::alphabet::{Bits, Modular, Quads, Thirds};
 use crate::mark::Mark;
 use refusals::Refusal;
 use std::test::Fail;
 
 #[test]
 fn a_mark_is_read_and_written(rt: HostRuntime) -> Result<(), Fail> {
-    assert_eq!(rt; Mark::read(&Bits, 6, &[0, 1, 0, 1, 0, 0])?.number, 68);
-    assert_eq!(rt; Mark::read(&Bits, 6, &[1, 0, 0, 0, 1, 0])?.number, 257);
+    assert_eq!(rt; Mark::read::<Bits>(6, &[0, 1, 0, 1, 0, 0])?.number, 68);
+    assert_eq!(rt; Mark::read::<Bits>(6, &[1, 0, 0, 0, 1, 0])?.number, 257);
     let mut buffer = [7; 4];
     Mark { number: 57 }.write(&mut buffer);
     assert_eq!(rt; &buffer, &[1, 2, 3, 0]);
@@ -21,17 +18,17 @@ fn a_mark_is_read_and_written(rt: HostRuntime) -> Result<(), Fail> {
 
 #[test]
 fn other_lengths_and_symbols_are_refused(rt: HostRuntime) -> Result<(), Fail> {
-    assert_eq!(rt; Mark::read(&Bits, 3, &[0, 2]), Err(Refusal::MarkLength));
+    assert_eq!(rt; Mark::read::<Bits>(3, &[0, 2]), Err(Refusal::MarkLength));
     assert_eq!(rt;
-        Mark::read(&Bits, 3, &[0, 1, 2]),
+        Mark::read::<Bits>(3, &[0, 1, 2]),
         Err(Refusal::MarkSymbol(3))
     );
     assert_eq!(rt;
-        Mark::read(&Thirds, 3, &[3, 1, 4]),
+        Mark::read::<Thirds>(3, &[3, 1, 4]),
         Err(Refusal::MarkSymbol(1))
     );
-    assert_eq!(rt; Mark::read(&Quads, 2, &[3, 3])?.number, 15);
-    assert_eq!(rt; Mark::read(&Quads, 33, &[0; 33]), Err(Refusal::MarkLength));
+    assert_eq!(rt; Mark::read::<Quads>(2, &[3, 3])?.number, 15);
+    assert_eq!(rt; Mark::read::<Quads>(33, &[0; 33]), Err(Refusal::MarkLength));
     Ok(())
 }
 
@@ -59,26 +56,10 @@ fn marks_add_place_by_place(rt: HostRuntime) {
 #[derive(Clone, Copy)]
 struct Clock;
 
-impl Alphabet for Clock {
-    const Q: u8 = 4;
+impl Modular for Clock {
+    const COUNT: u8 = 4;
 
-    ghost symbols = { modulo 4 };
+    ghost COUNT = { 4 };
 
-    ghost lawful = { lawful_by_test 4 _ _ _ (lit≤ tt) (lit≤ tt) refl };
-
-    fn count(&self) -> u8 {
-        Self::Q
-    }
-
-    fn sum(&self, s: u8, t: u8) -> u8 {
-        sum_modulo(Self::Q, s, t)
-    }
-
-    fn opposite(&self, s: u8) -> u8 {
-        opposite_modulo(Self::Q, s)
-    }
-
-    fn product(&self, s: u8, h: u8) -> u8 {
-        product_modulo(Self::Q, s, h)
-    }
+    ghost bounded = { (lit≤ tt, lit≤ tt) };
 }

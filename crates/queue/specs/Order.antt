@@ -1,12 +1,7 @@
--- Rankings, and items in a heap under one.
-use Rattle.std.specs.Prelude.{◌≡◌, ℕ, ◌-◌, ◌/◌, ◌<◌, Bool, true, false, List, ◌∷◌, length, slice_index_or}
+-- Items in a heap under a ranking.
+use Rattle.std.specs.Prelude.{◌≡◌, ℕ, ◌-◌, ◌/◌, ◌<◌, Bool, false, List, ◌∷◌, length, slice_index_or}
 use Rattle.std.specs.List.Sorted.{IsPermutation}
 use Rattle.std.specs.List.{AllByRecursion}
-
--- A strict weak order: items that neither ranks before the other may differ.
-pub record Orders {T : Type 0} (before : T → T → Bool) : Type 0 where
-  pub one_way : (a b : T) → before a b ≡ true → before b a ≡ false
-  pub through : (a b c : T) → before a b ≡ false → before b c ≡ false → before a c ≡ false
 
 abbrev pub parent : ℕ → ℕ
 parent k = (k - 1) / 2

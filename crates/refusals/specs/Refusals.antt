@@ -1,5 +1,5 @@
 -- What each refusal is listed under: its number, its layer and its place.
-use Rattle.std.specs.Prelude.{ℕ}
+use Rattle.std.specs.Prelude.{ℕ, List, ◌++◌, codes, decimal}
 use Rattle.refusals.specs.declared.Refusal.{Refusal}
 use Rattle.refusals.specs.declared.Refusal.TheVariants.{CutOff, OtherTag, OtherLength, SymbolCount, Size, CheckSymbol, RuleByte, CostInFile, Surplus, RuleShape, CostInList, RuleOfOtherCode, FileTooShort, OtherCode, Amount, Scratch, MarkLength, MarkSymbol, Buffer, NotSettled, NotFinished, NotByWeight, TooHeavy, RunTooShort, OutOfRange, QueueFull}
 
@@ -39,3 +39,8 @@ listed FileTooShort = under 20 1 0
 listed OutOfRange = under 21 4 0
 listed RuleShape = under 22 3 0
 listed QueueFull = under 23 5 0
+
+-- what is printed of a refusal
+abbrev pub refused_text : Refusal → List ℕ
+refused_text refusal =
+    codes "refused " ++ (decimal (listed refusal).number ++ (codes " " ++ (decimal (listed refusal).layer ++ (codes " " ++ decimal (listed refusal).place))))

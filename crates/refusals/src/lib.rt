@@ -1,8 +1,10 @@
 // Why a call declines. `listed` gives each refusal its number, layer and place.
 #![tactic(auto)]
 
-ghost use Rattle.std.specs.Prelude.{◌≡◌};
-ghost use Rattle.refusals.specs.Refusals.{listed};
+ghost use Rattle.std.specs.Prelude.{◌≡◌, Some};
+ghost use Rattle.refusals.specs.Refusals.{listed, refused_text};
+
+use std::fmt;
 
 #[derive(Clone, Copy, PartialEq, Eq, Debug)]
 pub enum Refusal {
@@ -109,5 +111,19 @@ impl Refusal {
             | Refusal::MarkSymbol(at) => at,
             _ => 0,
         }
+    }
+}
+
+impl fmt::Display for Refusal {
+    ghost output = { λ refusal. Some (refused_text refusal) };
+
+    fn fmt<W: fmt::Write>(&self, f: &mut fmt::Formatter<W>) -> fmt::Result {
+        write!(
+            f,
+            "refused {} {} {}",
+            self.number(),
+            self.layer(),
+            self.place()
+        )
     }
 }

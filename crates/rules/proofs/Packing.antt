@@ -1,10 +1,10 @@
--- A mark that is made by setting one place after the other.
-use Rattle.std.proofs.Common.{◌≡◌, ℕ, ◌+◌, ◌%◌, ◌<◌, ap, ◌∙◌, ap₂, mod-eq_of_lt}
+-- A mark that is built of its symbols, one answered for each place.
+use Rattle.std.proofs.Common.{◌≡◌, ℕ, ◌<◌, ◌≤◌, min, ap, ◌∙◌, arith}
 use Rattle.algebra.specs.Digits.{pack}
-use Rattle.algebra.specs.Marks.{put}
-use Rattle.algebra.proofs.Marks.{put_next}
+use Rattle.marks.specs.Symbols.{SymbolsOf}
+use Rattle.marks.proofs.Symbols.{same_symbols}
 
-pub set_next : (i : ℕ) (f : ℕ → ℕ) (before after symbol : ℕ) → i < 32 → ((j : ℕ) → f j < 4) → before ≡ pack 4 i f → symbol ≡ f i
-    → after ≡ put 32 before i (symbol % 4) → after ≡ pack 4 (i + 1) f
-set_next i f before after symbol h small e s p =
-    p ∙ ap₂ (λ u a. put 32 u i a) e (ap (λ a. a % 4) s ∙ mod-eq_of_lt (small i)) ∙ put_next 32 i f h (λ j _. small j)
+pub symbols_are : (answered : ℕ → ℕ → Type 0) (n number : ℕ) (f : ℕ → ℕ) → n ≤ 32 → SymbolsOf answered (min n 32) number
+    → ((i : ℕ) → f i < 4) → ((i s : ℕ) → i < n → answered i s → s ≡ f i) → number ≡ pack 4 n f
+symbols_are answered n number f fits symbols small known =
+    same_symbols answered (min n 32) number f symbols (λ i _. small i) (λ i s h. known i s (omega arith)) ∙ ap (λ m. pack 4 m f) (omega arith)

@@ -1,5 +1,6 @@
 -- Which refusal a rule is made with, if any.
-use Rattle.std.specs.Prelude.{◌≡◌, ℕ, suc, cond, ◌&&◌, List, [], ◌∷◌, length, Some, None, Ok, Err, Option, Result, ◌==◌, nat_le, nat_lt}
+use Rattle.std.specs.Prelude.{◌≡◌, ℕ, suc, cond, ◌&&◌, List, length, option_map, position, Some, None, Ok, Err, Option, Result, ◌==◌, nat_le, nat_lt}
+use Rattle.std.specs.List.{list_all}
 use Rattle.refusals.specs.declared.Refusal.{Refusal}
 use Rattle.refusals.specs.declared.Refusal.TheVariants.{RuleShape, CostInList}
 
@@ -12,14 +13,9 @@ Made refusal P (Err e) = refusal ≡ Some e
 abbrev pub size_refusal : ℕ → Option Refusal
 size_refusal n = cond (nat_le 1 n && nat_le n 24) None (Some RuleShape)
 
--- the index of the first number above a limit, or the length where there is none
-abbrev pub first_above : ℕ → List ℕ → ℕ
-first_above limit [] = 0
-first_above limit (x ∷ xs) = cond (nat_le x limit) (suc (first_above limit xs)) 0
-
 -- a cost above 1,000, by its place from 1
 abbrev pub dear_refusal : List ℕ → Option Refusal
-dear_refusal costs = cond (nat_lt (first_above 1000 costs) (length costs)) (Some (CostInList (suc (first_above 1000 costs)))) None
+dear_refusal costs = option_map (λ i. CostInList (suc i)) (position (nat_lt 1000) costs)
 
 -- a rule by cost: first the length and the list's, then the costs
 abbrev pub cost_refusal : ℕ → List ℕ → Option Refusal
@@ -27,4 +23,4 @@ cost_refusal n costs = cond ((nat_le 1 n && nat_le n 24) && length costs == n) (
 
 -- an erased layer: the list's length, and a byte above 1
 abbrev pub erased_refusal : ℕ → List ℕ → Option Refusal
-erased_refusal n bytes = cond (length bytes == n && first_above 1 bytes == length bytes) None (Some RuleShape)
+erased_refusal n bytes = cond (length bytes == n && list_all (λ byte. nat_le byte 1) bytes) None (Some RuleShape)

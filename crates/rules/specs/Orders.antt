@@ -4,7 +4,7 @@ use Rattle.std.proofs.Common.{sym, ap, ◌∙◌, inl, inr}
 use Rattle.std.proofs.lemmas.Bool.{cases_Bool, both_ways}
 use Rattle.algebra.specs.Rankings.{MarkRanking, Ranks}
 use Rattle.algebra.proofs.Digits.{mod_below}
-use Rattle.queue.specs.Order.{Orders}
+use Rattle.std.specs.Cmp.{IsStrictWeakOrder}
 
 module _ (R : MarkRanking) (ranks : Ranks R) where
   abbrev low : ℕ → ℕ
@@ -25,5 +25,5 @@ module _ (R : MarkRanking) (ranks : Ranks R) where
       go (inl l) (inl m) = absurd (both_ways (R.before b c) k (ranks.transitive b a c l m))
       go (inr l) (inl m) = alike a b c (same a b h l) ∙ k
 
-  pub ranks_orders : Orders R.before
-  ranks_orders = record { one_way = ranks.never_both; through = through }
+  pub ranks_orders : IsStrictWeakOrder R.before
+  ranks_orders = record { one_way = ranks.never_both; chain = through }

@@ -1,13 +1,15 @@
 // The rules plain and weight.
-ghost use Rattle.std.specs.Prelude.{◌≡◌, ◌%◌, ◌^◌, ◌≤◌, refl};
-ghost use Rattle.algebra.specs.Rankings.{first, plain, by_weight};
+ghost use Rattle.std.specs.Prelude.{◌≡◌, ◌%◌, ◌^◌, true, false};
+ghost use Rattle.std.proofs.Common.{sym};
+ghost use Rattle.std.proofs.lemmas.Bool.{true≢false};
+ghost use Rattle.algebra.specs.Rankings.{first, plain, by_weight, cost_share};
 ghost use Rattle.rules.specs.Making.{Made, size_refusal};
-ghost use Rattle.algebra.proofs.Rankings.{plain_ranks, weight_ranks};
-ghost use Rattle.rules.specs.Orders.{ranks_orders};
+ghost use Rattle.algebra.proofs.Rankings.{cost_counts, ones_weigh};
 
+use crate::length::Length;
+use crate::measure::{Measure, Measured};
 use crate::rule::Rule;
 use marks::mark::{Mark, PLACES};
-use queue::ranking::Ranking;
 use refusals::Refusal;
 
 // The first n places of a mark, and nothing past them.
@@ -24,10 +26,10 @@ pub fn low(number: u64, n: usize) -> u64
 pub fn is_first(a: u32, b: u32, u: u64, v: u64) -> bool
     ensures { result ≡ first a b u v }
 {
-    a < b || a == b && u < v
+    (a, u) < (b, v)
 }
 
-// The lighter mark first, then the smaller number, of the first n places.
+// The lighter mark first, then the smaller number, of the first n places: for every n, where a rule has 1 to 24.
 pub fn weight_before(n: usize, u: u64, v: u64) -> bool
     ensures { result ≡ (by_weight n).before u v }
 {
@@ -36,90 +38,108 @@ pub fn weight_before(n: usize, u: u64, v: u64) -> bool
     is_first(u.weight(), v.weight(), u.number, v.number)
 }
 
-// The smaller mark number first.
+// No place counts.
 #[derive(Clone, Copy)]
-pub struct Plain {
-    n: usize,
-    ghost size: { (1 ≤ n) × (n ≤ 24) },
+pub struct Nothing {
+    places: Length,
+}
+
+impl Measure for Nothing {
+    const BY_WEIGHT: bool = false;
+
+    ghost BY_WEIGHT = { false };
+
+    ghost n = { λ s. s.places.n };
+
+    ghost share = { λ _. cost_share (λ _. 0) };
+
+    ghost sized = { λ s. s.places.size };
+
+    ghost counts = { λ s. cost_counts s.places.n (λ _. 0) };
+
+    ghost weighs = { λ _ h. absurd (true≢false (sym h)) };
+
+    fn places(&self) -> usize {
+        self.places.get()
+    }
+
+    #[tactic(auto, using(algebra::proofs::Rankings::free_cost))]
+    fn of(&self, _mark: Mark) -> u32 {
+        0
+    }
+}
+
+// The smaller mark number first.
+pub type Plain = Measured<Nothing>;
+
+impl From<Length> for Plain {
+    ghost from_gives = { λ places rule. rule.measure.places ≡ places };
+
+    fn from(places: Length) -> Plain {
+        Measured {
+            measure: Nothing { places },
+        }
+    }
 }
 
 impl Plain {
     pub fn new(n: usize) -> Result<Plain, Refusal>
-        ensures { Made (size_refusal n) (λ rule. rule.n ≡ n) result }
+        ensures { Made (size_refusal n) (λ rule. (rule.measure.places.n ≡ n) × (⟦<Plain as Rule>⟧.ranks rule ≡ plain n)) result }
     {
-        if n == 0 || n > 24 {
-            return Err(Refusal::RuleShape);
-        }
-        Ok(Plain { n })
+        Ok(Plain::from(Length::try_from(n)?))
     }
 }
 
-impl Ranking<u64> for Plain {
-    ghost before = { λ s. (plain s.n).before };
-
-    ghost orders = { λ s. ranks_orders _ (plain_ranks s.n s.size.0 s.size.1) };
-
-    fn before(&self, u: u64, v: u64) -> bool {
-        low(u, self.n) < low(v, self.n)
-    }
+// Each place that is filled counts 1.
+#[derive(Clone, Copy)]
+pub struct Ones {
+    places: Length,
 }
 
-impl Rule for Plain {
-    ghost ranks = { λ s. plain s.n };
+impl Measure for Ones {
+    const BY_WEIGHT: bool = true;
 
-    ghost lawful = { λ s. plain_ranks s.n s.size.0 s.size.1 };
+    ghost BY_WEIGHT = { true };
 
-    ghost agrees = { λ s u v. refl };
+    ghost n = { λ s. s.places.n };
+
+    ghost share = { λ _. cost_share (λ _. 1) };
+
+    ghost sized = { λ s. s.places.size };
+
+    ghost counts = { λ s. cost_counts s.places.n (λ _. 1) };
+
+    ghost weighs = { λ s _. ones_weigh s.places.n };
 
     fn places(&self) -> usize {
-        self.n
+        self.places.get()
     }
 
-    fn is_by_weight(&self) -> bool {
-        false
+    #[tactic(auto, using(algebra::proofs::Rankings::weight_cost))]
+    fn of(&self, mark: Mark) -> u32 {
+        let number = low(mark.number, self.places.get());
+        Mark { number }.weight()
     }
 }
 
 // The lighter mark first, then the smaller number.
-#[derive(Clone, Copy)]
-pub struct Weight {
-    n: usize,
-    ghost size: { (1 ≤ n) × (n ≤ 24) },
+pub type Weight = Measured<Ones>;
+
+impl From<Length> for Weight {
+    ghost from_gives = { λ places rule. rule.measure.places ≡ places };
+
+    fn from(places: Length) -> Weight {
+        Measured {
+            measure: Ones { places },
+        }
+    }
 }
 
+// A `new` of its own, as plain has: each promises another ranking.
 impl Weight {
     pub fn new(n: usize) -> Result<Weight, Refusal>
-        ensures { Made (size_refusal n) (λ rule. rule.n ≡ n) result }
+        ensures { Made (size_refusal n) (λ rule. (rule.measure.places.n ≡ n) × (⟦<Weight as Rule>⟧.ranks rule ≡ by_weight n)) result }
     {
-        if n == 0 || n > 24 {
-            return Err(Refusal::RuleShape);
-        }
-        Ok(Weight { n })
-    }
-}
-
-impl Ranking<u64> for Weight {
-    ghost before = { λ s. (by_weight s.n).before };
-
-    ghost orders = { λ s. ranks_orders _ (weight_ranks s.n s.size.0 s.size.1) };
-
-    fn before(&self, u: u64, v: u64) -> bool {
-        weight_before(self.n, u, v)
-    }
-}
-
-impl Rule for Weight {
-    ghost ranks = { λ s. by_weight s.n };
-
-    ghost lawful = { λ s. weight_ranks s.n s.size.0 s.size.1 };
-
-    ghost agrees = { λ s u v. refl };
-
-    fn places(&self) -> usize {
-        self.n
-    }
-
-    fn is_by_weight(&self) -> bool {
-        true
+        Ok(Weight::from(Length::try_from(n)?))
     }
 }

@@ -1,15 +1,16 @@
 // Layers: rules that hold another rule, the one below, and rank by it.
-ghost use Rattle.std.specs.Prelude.{◌≡◌, ℕ, ◌-◌, ◌<◌, ◌≤◌, ◌&&◌, ◌||◌, length, if◌then◌else◌, Some, None, nat_eq, nat_lt, slice_index, refl};
+ghost use Rattle.std.specs.Prelude.{◌≡◌, ℕ, ◌%◌, ◌^◌, ◌≤◌, ◌==◌, Some, None, nat_le, slice_index, refl};
+ghost use Rattle.std.specs.List.{list_all};
 ghost use Rattle.algebra.specs.Digits.{total};
-ghost use Rattle.algebra.specs.Rankings.{mirrored as turned_of, mirror, wiped as wiped_of, erased};
+ghost use Rattle.algebra.specs.Rankings.{mirrored as turned_of, mirror, wiped, erased};
 ghost use Rattle.refusals.specs.declared.Refusal.{Refusal};
-ghost use Rattle.rules.specs.Making.{first_above, erased_refusal};
+ghost use Rattle.rules.specs.Making.{erased_refusal};
 ghost use Rattle.algebra.proofs.Layers.{mirror_ranks, erased_ranks};
 ghost use Rattle.rules.specs.Orders.{ranks_orders};
 
 use crate::basic::low;
 use crate::lists::padded;
-use crate::rule::Rule;
+use crate::rule::{Rule, RuleMade};
 use marks::mark::Mark;
 use queue::ranking::Ranking;
 use refusals::Refusal;
@@ -26,11 +27,7 @@ fn turned(number: u64, n: usize) -> u64
     ensures { result ≡ turned_of n number }
 {
     let mark = Mark { number };
-    let mut turned = Mark { number: 0 };
-    for i in 0..n {
-        turned = turned.set(i, mark.symbol(n - 1 - i));
-    }
-    turned.number
+    Mark::from_fn(n, |i| mark.symbol(n - 1 - i)).number
 }
 
 impl<R: Rule> Ranking<u64> for Mirror<R> {
@@ -60,10 +57,43 @@ impl<R: Rule> Rule for Mirror<R> {
     }
 }
 
-// Which places are erased: 1 for one that is.
+// Whether no byte is above the limit.
+fn none_above(limit: u8, bytes: &[u8]) -> bool
+    ensures { result ≡ list_all (λ byte. nat_le byte limit) bytes.now }
+{
+    bytes.iter().all(|byte| *byte <= limit)
+}
+
+// Which places are erased: 1 for one that is. The bytes as they are given and no flags, in fixed memory, for a host with no
+// heap.
 #[derive(Clone, Copy)]
 struct Erasures {
     bytes: [u8; 24],
+}
+
+// A rule below gives its length as a number, so that it is at most 24 is asked here and no `Length`.
+impl Erasures {
+    // Whether each of the first n places stays.
+    fn are_none(&self, n: usize) -> bool
+        requires { n ≤ 24 }
+        ensures { result ≡ (total n (λ i. slice_index self.now.bytes i) == 0) }
+    {
+        none_above(0, &self.bytes[..n])
+    }
+
+    // The first n places of a mark, with 0 at the erased ones.
+    fn wipe(&self, n: usize, number: u64) -> u64
+        requires { n ≤ 24 }
+        ensures { result ≡ wiped n (λ i. slice_index self.now.bytes i) number }
+    {
+        let mark = Mark { number };
+        let kept = |i| if self.bytes[i] == 0 {
+            mark.symbol(i)
+        } else {
+            0
+        };
+        Mark::from_fn(n, kept).number
+    }
 }
 
 // Erased places blanked; where that leaves the marks equal, the smaller number first.
@@ -73,30 +103,10 @@ pub struct Erased<R> {
     gone: Erasures,
 }
 
-// A rule, or the refusal of one with a layer beside it that erases no place.
-#[derive(Clone, Copy)]
-pub struct ErasedMade<R> {
-    pub rule: Erased<R>,
-    pub refused: Option<Refusal>,
-}
-
-// The index of the first byte above 1, or the length where there is none.
-#[tactic(auto, using(crate::proofs::Above::first_above_laws))]
-fn first_other(bytes: &[u8]) -> usize
-    ensures { result ≡ first_above 1 bytes.now }
-{
-    for (i, byte) in bytes.iter().enumerate() {
-        if *byte > 1 {
-            return i;
-        }
-    }
-    bytes.len()
-}
-
 fn erased_refusal(n: usize, bytes: &[u8]) -> Option<Refusal>
     ensures { result ≡ erased_refusal n bytes.now }
 {
-    if bytes.len() == n && first_other(bytes) == n {
+    if bytes.len() == n && none_above(1, bytes) {
         None
     } else {
         Some(Refusal::RuleShape)
@@ -104,8 +114,9 @@ fn erased_refusal(n: usize, bytes: &[u8]) -> Option<Refusal>
 }
 
 impl<R: Rule> Erased<R> {
-    // A byte for each place of the rule below, 1 for an erased one and 0 otherwise.
-    pub fn new(below: R, bytes: &[u8]) -> ErasedMade<R>
+    // A byte for each place of the rule below, 1 for an erased one and 0 otherwise. Beside a refusal stands a layer that erases
+    // no place.
+    pub fn new(below: R, bytes: &[u8]) -> RuleMade<Erased<R>>
         ensures refused { result.refused ≡ erased_refusal (R.Rule.ranks below).n bytes.now }
         ensures below { result.rule.below ≡ below }
         ensures gone { result.refused ≡ None → (k : ℕ) → slice_index result.rule.gone.bytes k ≡ slice_index bytes.now k }
@@ -116,7 +127,7 @@ impl<R: Rule> Erased<R> {
             None => padded(0, bytes),
             Some(_) => padded(0, &[]),
         };
-        ErasedMade {
+        RuleMade {
             rule: Erased {
                 below,
                 gone: Erasures { bytes },
@@ -124,32 +135,15 @@ impl<R: Rule> Erased<R> {
             refused,
         }
     }
-}
 
-fn kept(gone: u8, symbol: u8) -> u8
-    ensures { result ≡ (if nat_eq gone 0 then symbol else 0) }
-{
-    if gone == 0 { symbol } else { 0 }
-}
-
-// The first n places of a mark, with 0 at those that are gone.
-fn wiped(number: u64, n: usize, gone: &[u8; 24]) -> u64
-    requires size { n ≤ 24 }
-    ensures { result ≡ wiped_of n (λ i. slice_index gone.now i) number }
-{
-    let mark = Mark { number };
-    let mut left = Mark { number: 0 };
-    for i in 0..n {
-        left = left.set(i, kept(gone[i], mark.symbol(i)));
+    // What a mark is compared by: what is left of it, then its number.
+    fn key(&self, number: u64) -> (u64, u64)
+        ensures left { result.0 ≡ wiped (R.Rule.ranks self.now.below).n (λ i. slice_index self.now.gone.bytes i) number }
+        ensures low { result.1 ≡ number % 4 ^ (R.Rule.ranks self.now.below).n }
+    {
+        let n = self.below.places();
+        (self.gone.wipe(n, number), low(number, n))
     }
-    left.number
-}
-
-// Before already, or the same and the smaller number.
-fn or_smaller(before: bool, same: bool, u: u64, v: u64) -> bool
-    ensures { result ≡ (before || (same && nat_lt u v)) }
-{
-    before || same && u < v
 }
 
 impl<R: Rule> Ranking<u64> for Erased<R> {
@@ -158,24 +152,10 @@ impl<R: Rule> Ranking<u64> for Erased<R> {
     ghost orders = { λ s. ranks_orders _ (erased_ranks (λ i. slice_index s.gone.bytes i) _ (R.Rule.lawful s.below)) };
 
     fn before(&self, u: u64, v: u64) -> bool {
-        let n = self.below.places();
-        let left_u = wiped(u, n, &self.gone.bytes);
-        let left_v = wiped(v, n, &self.gone.bytes);
-        let before = self.below.before(left_u, left_v);
-        or_smaller(before, left_u == left_v, low(u, n), low(v, n))
+        let (left_u, low_u) = self.key(u);
+        let (left_v, low_v) = self.key(v);
+        self.below.before(left_u, left_v) || left_u == left_v && low_u < low_v
     }
-}
-
-// How many of the first n places are erased.
-fn erased_count(n: usize, gone: &[u8; 24]) -> usize
-    requires { n ≤ 24 }
-    ensures { result ≡ total n (λ i. slice_index gone.now i) }
-{
-    let mut count = 0;
-    for i in 0..n {
-        count += usize::from(gone[i]);
-    }
-    count
 }
 
 impl<R: Rule> Rule for Erased<R> {
@@ -190,6 +170,6 @@ impl<R: Rule> Rule for Erased<R> {
     }
 
     fn is_by_weight(&self) -> bool {
-        self.below.is_by_weight() && erased_count(self.below.places(), &self.gone.bytes) == 0
+        self.below.is_by_weight() && self.gone.are_none(self.below.places())
     }
 }

@@ -4,7 +4,9 @@
 pub mod basic;
 pub mod cost;
 pub mod layers;
+pub mod length;
 pub mod lists;
+pub mod measure;
 pub mod rule;
 #[cfg(test)]
 mod tests;

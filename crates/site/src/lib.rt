@@ -1,7 +1,7 @@
 // A rule as a library's own people would write it: the smaller sum of the symbols first, then the smaller number.
 #![tactic(auto)]
 
-ghost use Rattle.std.specs.Prelude.{◌≡◌, ◌≤◌, false, refl};
+ghost use Rattle.std.specs.Prelude.{◌≡◌, ◌%◌, ◌^◌, false, refl};
 ghost use Rattle.algebra.specs.Rankings.{measure, by_measure};
 ghost use Rattle.rules.specs.Making.{Made, size_refusal};
 ghost use Rattle.rules.specs.Orders.{ranks_orders};
@@ -10,61 +10,63 @@ ghost use Rattle.site.specs.Laws.{symbol_sum_ranks};
 use marks::mark::Mark;
 use queue::ranking::Ranking;
 use refusals::Refusal;
-use rules::basic::{is_first, low};
+use rules::basic::low;
+use rules::length::Length;
 use rules::rule::Rule;
 
 #[cfg(test)]
 mod tests;
 
+// It meets `Rule` itself, to show that a rule from outside can, though as a sum it could be a `Measure`.
 #[derive(Clone, Copy)]
 pub struct SymbolSum {
-    n: usize,
-    ghost size: { (1 ≤ n) × (n ≤ 24) },
+    places: Length,
 }
 
 impl SymbolSum {
     pub fn new(n: usize) -> Result<SymbolSum, Refusal>
-        ensures { Made (size_refusal n) (λ rule. rule.n ≡ n) result }
+        ensures { Made (size_refusal n) (λ rule. rule.places.n ≡ n) result }
     {
-        if n == 0 || n > 24 {
-            return Err(Refusal::RuleShape);
-        }
-        Ok(SymbolSum { n })
+        Ok(SymbolSum {
+            places: Length::try_from(n)?,
+        })
     }
-}
 
-fn sum_of(mark: Mark, n: usize) -> u32
-    requires { n ≤ 24 }
-    ensures { result ≡ measure n (λ _ symbol. symbol) mark.number }
-{
-    let mut sum = 0;
-    for i in 0..n {
-        sum += u32::from(mark.symbol(i));
+    // What a mark is compared by: the sum of its symbols, and its number.
+    fn key(&self, number: u64) -> (u32, u64)
+        ensures sum { result.0 ≡ measure self.now.places.n (λ _ symbol. symbol) number }
+        ensures low { result.1 ≡ number % 4 ^ self.now.places.n }
+    {
+        let n = self.places.get();
+        let mark = Mark { number };
+        let mut sum = 0;
+        // A chain over `0..n` that ends in `sum` was tried: neither its bound nor its value was found.
+        for place in 0..n {
+            sum += u32::from(mark.symbol(place));
+        }
+        (sum, low(number, n))
     }
-    sum
 }
 
 impl Ranking<u64> for SymbolSum {
-    ghost before = { λ s. (by_measure s.n false (λ _ symbol. symbol)).before };
+    ghost before = { λ s. (by_measure s.places.n false (λ _ symbol. symbol)).before };
 
-    ghost orders = { λ s. ranks_orders _ (symbol_sum_ranks s.n s.size.0 s.size.1) };
+    ghost orders = { λ s. ranks_orders _ (symbol_sum_ranks s.places.n s.places.size.0 s.places.size.1) };
 
     fn before(&self, u: u64, v: u64) -> bool {
-        let sum_u = sum_of(Mark { number: u }, self.n);
-        let sum_v = sum_of(Mark { number: v }, self.n);
-        is_first(sum_u, sum_v, low(u, self.n), low(v, self.n))
+        self.key(u) < self.key(v)
     }
 }
 
 impl Rule for SymbolSum {
-    ghost ranks = { λ s. by_measure s.n false (λ _ symbol. symbol) };
+    ghost ranks = { λ s. by_measure s.places.n false (λ _ symbol. symbol) };
 
-    ghost lawful = { λ s. symbol_sum_ranks s.n s.size.0 s.size.1 };
+    ghost lawful = { λ s. symbol_sum_ranks s.places.n s.places.size.0 s.places.size.1 };
 
     ghost agrees = { λ s u v. refl };
 
     fn places(&self) -> usize {
-        self.n
+        self.places.get()
     }
 
     fn is_by_weight(&self) -> bool {

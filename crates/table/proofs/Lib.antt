@@ -1,4 +1,5 @@
-mod Opening
+pub mod Opening
+pub mod Tables
 mod Queues
-pub mod Settling
+mod Settling
 pub mod Finding

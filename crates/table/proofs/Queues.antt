@@ -14,7 +14,7 @@ use Rattle.leaders.proofs.Adding.{zero_mark}
 use Rattle.leaders.proofs.Growth.{next_leader, none_waits, waiting_taken, waiting_more}
 use Rattle.leaders.proofs.Leaders.{few_leaders, number_at, number_most}
 use Rattle.leaders.proofs.Ranked.{has_here, has_there}
-use Rattle.queue.specs.Contents.{places_of, items_of, Within, Accepted, Refused, Empty, Taken}
+use Rattle.queue.specs.Contents.{count_of, places_of, items_of, Accepted, Refused, Empty, Taken}
 use Rattle.queue.specs.Order.{Heaped}
 use Rattle.queue.specs.declared.queue.Queue.{Queue}
 use Rattle.refusals.specs.declared.Refusal.{Refusal}
@@ -35,14 +35,13 @@ module _ (before before' : ℕ → ℕ → Bool) (agree : (u v : ℕ) → before
 
 -- an item is accepted where there is room
 pub accepted_with_room : (before : ℕ → ℕ → Bool) (item : ℕ) (old new : Queue ℕ) (r : Result (Unit {0}) Refusal)
-    → MatchResult r (λ _. Accepted before item old new) (λ e. Refused e old new) → old.held < length (places_of old) → Accepted before item old new
+    → MatchResult r (λ _. Accepted before item old new) (λ e. Refused e old new) → count_of old < length (places_of old) → Accepted before item old new
 accepted_with_room before item old new (Ok _) h room = h
 accepted_with_room before item old new (Err e) h room = absurd (omega (arith, h.full))
 
 module _ (T : Scheme) where
-  pub joined_none : (added : ℕ → Type 0) (queue : Queue ℕ) → Within queue → ((v : ℕ) → added v → ⊥) → Joined T added 0 queue queue
-  joined_none added queue within none = record {
-    within = within;
+  pub joined_none : (added : ℕ → Type 0) (queue : Queue ℕ) → ((v : ℕ) → added v → ⊥) → Joined T added 0 queue queue
+  joined_none added queue none = record {
     long = refl;
     held = omega arith;
     marks = λ h. h;
@@ -54,9 +53,8 @@ module _ (T : Scheme) where
   -- one mark more
   module _ (before : ℕ → ℕ → Bool) (agree : (u v : ℕ) → before u v ≡ T.ranking.before u v) where
     pub joined_put : (added added' : ℕ → Type 0) (count count' : ℕ) (old mid new : Queue ℕ) (u : ℕ) → Joined T added count old mid → Accepted before u mid new
-        → Within new → length (places_of new) ≡ length (places_of mid) → MarkOf T u → count + 1 ≤ count' → ((v : ℕ) → added' v → added v ⊎ (u ≡ v)) → Joined T added' count' old new
-    joined_put added added' count count' old mid new u joined accepted within long mark more cases = record {
-      within = within;
+        → length (places_of new) ≡ length (places_of mid) → MarkOf T u → count + 1 ≤ count' → ((v : ℕ) → added' v → added v ⊎ (u ≡ v)) → Joined T added' count' old new
+    joined_put added added' count count' old mid new u joined accepted long mark more cases = record {
       long = long ∙ joined.long;
       held = omega (arith, joined.held, accepted.held);
       marks = λ h. all_shuffled (MarkOf T) (u ∷ items_of mid) (items_of new) accepted.items (mark, joined.marks h);
@@ -85,7 +83,6 @@ module _ (T : Scheme) where
 
   pub joined_weaker : (added added' : ℕ → Type 0) (count count' : ℕ) (old new : Queue ℕ) → Joined T added count old new → count ≤ count' → ((v : ℕ) → added' v → added v) → Joined T added' count' old new
   joined_weaker added added' count count' old new joined h less = record {
-    within = joined.within;
     long = joined.long;
     held = omega (arith, joined.held);
     marks = joined.marks;
@@ -97,7 +94,6 @@ module _ (T : Scheme) where
   pub joined_then : (added added' both : ℕ → Type 0) (count count' : ℕ) (old mid new : Queue ℕ) → Joined T added count old mid → Joined T added' count' mid new
       → ((v : ℕ) → both v → added v ⊎ added' v) → Joined T both (count + count') old new
   joined_then added added' both count count' old mid new first second cases = record {
-    within = second.within;
     long = second.long ∙ first.long;
     held = omega (arith, first.held, second.held);
     marks = λ h. second.marks (first.marks h);
@@ -111,16 +107,15 @@ module _ (T : Scheme) (proper : Proper T) where
   abbrev at : ℕ → ℕ
   at i = get_or (leaders T) i 0
 
-  empty_heaped : (before : ℕ → ℕ → Bool) (queue : Queue ℕ) → queue.held ≡ 0 → Heaped before (items_of queue)
+  empty_heaped : (before : ℕ → ℕ → Bool) (queue : Queue ℕ) → count_of queue ≡ 0 → Heaped before (items_of queue)
   empty_heaped before queue e = subst (λ m. Heaped before (take m (places_of queue))) (sym e) (record { under = λ k d p l. absurd (omega arith) })
 
-  empty_all : (queue : Queue ℕ) → queue.held ≡ 0 → AllByRecursion (MarkOf T) (items_of queue)
+  empty_all : (queue : Queue ℕ) → count_of queue ≡ 0 → AllByRecursion (MarkOf T) (items_of queue)
   empty_all queue e = subst (λ m. AllByRecursion (MarkOf T) (take m (places_of queue))) (sym e) tt
 
   -- nothing is held, and some leader is settled
-  pub pending_later : (k : ℕ) (queue : Queue ℕ) → 0 < k → queue.held ≡ 0 → scratch_size T ≤ length (places_of queue) → Pending T k 0 queue
+  pub pending_later : (k : ℕ) (queue : Queue ℕ) → 0 < k → count_of queue ≡ 0 → scratch_size T ≤ length (places_of queue) → Pending T k 0 queue
   pending_later k queue some e room = record {
-    within = omega arith;
     room = room;
     held = omega arith;
     waiting = record { marks = empty_all queue e; start = λ z. absurd (omega arith); sprouts = λ j v h. absurd (omega arith) };
@@ -129,9 +124,8 @@ module _ (T : Scheme) (proper : Proper T) where
 
   module _ (before : ℕ → ℕ → Bool) (agree : (u v : ℕ) → before u v ≡ T.ranking.before u v) where
     -- only 0 is held, and no leader is settled
-    pub pending_first : (old new : Queue ℕ) → old.held ≡ 0 → scratch_size T ≤ length (places_of old) → length (places_of new) ≡ length (places_of old) → Within new → Accepted before 0 old new → Pending T 0 0 new
-    pending_first old new e room long within accepted = record {
-      within = within;
+    pub pending_first : (old new : Queue ℕ) → count_of old ≡ 0 → scratch_size T ≤ length (places_of old) → length (places_of new) ≡ length (places_of old) → Accepted before 0 old new → Pending T 0 0 new
+    pending_first old new e room long accepted = record {
       room = omega arith;
       held = omega (arith, accepted.held);
       waiting = record {
@@ -143,7 +137,7 @@ module _ (T : Scheme) (proper : Proper T) where
     }
 
     -- a mark is taken
-    module _ (k : ℕ) (old new : Queue ℕ) (u : ℕ) (pending : Pending T k k old) (taken : Taken before u old new) (long : length (places_of new) ≡ length (places_of old)) (within : Within new) where
+    module _ (k : ℕ) (old new : Queue ℕ) (u : ℕ) (pending : Pending T k k old) (taken : Taken before u old new) (long : length (places_of new) ≡ length (places_of old)) where
       was_heaped : Heaped before (items_of old)
       was_heaped = heaped_alike T.ranking.before before (λ a b. sym (agree a b)) (items_of old) pending.order
 
@@ -155,7 +149,6 @@ module _ (T : Scheme) (proper : Proper T) where
 
       rest : (k' : ℕ) → k ≤ k' → leader_number T u ≤ k' → Pending T k' k new
       rest k' h l = record {
-        within = within;
         room = omega (arith, pending.room);
         held = omega (arith, pending.held, taken.held);
         waiting = waiting_taken T proper k k' k (items_of old) (items_of new) u pending.waiting taken.parted.same h l;
@@ -183,7 +176,6 @@ module _ (T : Scheme) (proper : Proper T) where
   taken_none k old new pending h empty = record {
     all = none_waits T proper k (items_of old) pending.waiting (ap (λ m. length (take m (places_of old))) empty.none) h;
     pending = record {
-      within = omega (arith, empty.unaltered.held);
       room = omega (arith, pending.room, ap length empty.unaltered.places);
       held = omega (arith, empty.unaltered.held, empty.none);
       waiting = subst (Waiting T k k) (sym same) pending.waiting;
@@ -197,7 +189,6 @@ module _ (T : Scheme) (proper : Proper T) where
   -- a leader's sprouts are put
   pub pending_sprouts : (k m : ℕ) (old new : Queue ℕ) → Pending T k m old → Joined T (Sprout T (at m)) (sprout_count T) old new → Pending T k (m + 1) new
   pending_sprouts k m old new pending joined = record {
-    within = joined.within;
     room = omega (arith, pending.room, joined.long);
     held = omega (arith, joined.held, pending.held, mul-add (sprout_count T) m 1, mul-one (sprout_count T));
     waiting = waiting_more T proper k m (items_of new) kept joined.joins;
@@ -212,7 +203,7 @@ module _ (T : Scheme) (proper : Proper T) where
       }
 
   -- there is room for the sprouts of every leader
-  pub room_for_sprouts : (k m : ℕ) (queue : Queue ℕ) → Pending T k m queue → m < coset_count T → queue.held + sprout_count T ≤ length (places_of queue)
+  pub room_for_sprouts : (k m : ℕ) (queue : Queue ℕ) → Pending T k m queue → m < coset_count T → count_of queue + sprout_count T ≤ length (places_of queue)
   room_for_sprouts k m queue pending h =
       let most : sprout_count T * (m + 1) ≤ sprout_count T * T.symbols.q ^ T.checks.r = mul-le-mul_left (sprout_count T) (omega (arith, few_leaders T proper)) in
       omega (arith, pending.room, pending.held, mul-add (sprout_count T) m 1, mul-one (sprout_count T))

@@ -11,11 +11,21 @@ use Rattle.refusals.specs.declared.Refusal.TheVariants.{OtherCode, Amount, Scrat
 
 -- a rule of n places and an alphabet of q symbols must be those of the code
 abbrev pub open_refusal : Code → ℕ → ℕ → Option Refusal
-open_refusal code n q = cond (n == code.n && q == code.q) None (Some OtherCode)
+open_refusal code n q = cond (n == code.sizes.places.n && q == code.sizes.q) None (Some OtherCode)
 
 -- the least scratch that a grow takes, for n places of q symbols and r checks
 abbrev pub scratch_for : ℕ → ℕ → ℕ → ℕ
 scratch_for q n r = n * (q - 1) * q ^ r + 1
+
+-- the answer on a table that was opened; where the opening was refused, its refusal again
+abbrev pub unless_refused : Option Refusal → Result (Unit {0}) Refusal → Result (Unit {0}) Refusal
+unless_refused None answer = answer
+unless_refused (Some refusal) answer = Err refusal
+
+-- the amount of a grow with that answer: 0 where it was refused
+abbrev pub growth : Result (Unit {0}) Refusal → ℕ → ℕ
+growth (Ok _) amount = amount
+growth (Err _) amount = 0
 
 module _ (T : Scheme) where
   abbrev pub scratch_size : ℕ

@@ -6,17 +6,18 @@ use Rattle.algebra.specs.Marks.{put}
 use Rattle.leaders.specs.Growth.{Sprout, Waiting}
 use Rattle.leaders.specs.Leaders.{leaders, coset_count}
 use Rattle.leaders.specs.Schemes.{Scheme, MarkOf}
-use Rattle.queue.specs.Contents.{places_of, items_of, Within}
+use Rattle.queue.specs.Contents.{count_of, places_of, items_of}
 use Rattle.queue.specs.Order.{Heaped}
 use Rattle.queue.specs.declared.queue.Queue.{Queue}
 use Rattle.table.specs.Answers.{scratch_size}
+use Rattle.table.specs.Records.{Settled}
+use Rattle.table.specs.declared.records.Records.{Records}
 
 module _ (T : Scheme) where
   -- The queue has got every mark of which `added` holds, at most `count` in all, and has lost none.
   pub record Joined (added : ℕ → Type 0) (count : ℕ) (old new : Queue ℕ) : Type 0 where
-    pub within : Within new
     pub long : length (places_of new) ≡ length (places_of old)
-    pub held : new.held ≤ old.held + count
+    pub held : count_of new ≤ count_of old + count
     pub marks : AllByRecursion (MarkOf T) (items_of old) → AllByRecursion (MarkOf T) (items_of new)
     pub keeps : (v : ℕ) → Has (items_of old) v → Has (items_of new) v
     pub joins : (v : ℕ) → added v → Has (items_of new) v
@@ -36,11 +37,15 @@ module _ (T : Scheme) where
 
   -- While k leaders are settled, the sprouts of the first m wait in the queue, with room for those of every coset.
   pub record Pending (k m : ℕ) (queue : Queue ℕ) : Type 0 where
-    pub within : Within queue
     pub room : scratch_size T ≤ length (places_of queue)
-    pub held : queue.held ≤ sprout_count * m + 1
+    pub held : count_of queue ≤ sprout_count * m + 1
     pub waiting : Waiting T k m (items_of queue)
     pub order : Heaped T.ranking.before (items_of queue)
+
+  -- What holds while a table grows: its records say which leaders are settled, and all their sprouts wait.
+  pub record Growing (records : Records) (queue : Queue ℕ) : Type 0 where
+    pub settled : Settled T records
+    pub pending : Pending records.settled records.settled queue
 
   -- The next leader was taken from the queue. What waits then waits once it is settled, but for its own sprouts.
   pub record NextIs (k : ℕ) (queue : Queue ℕ) (u : ℕ) : Type 0 where

@@ -3,4 +3,6 @@
 
 pub mod growing;
 mod reading;
+mod records;
+mod subject;
 pub mod table;

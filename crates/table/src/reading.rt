@@ -5,10 +5,10 @@ ghost use Rattle.leaders.specs.Leaders.{leader_of, leader_number};
 ghost use Rattle.leaders.specs.Schemes.{MarkOf};
 ghost use Rattle.marks.specs.Reading.{reading};
 ghost use Rattle.table.specs.Answers.{tally_answer, leader_answer, settled_number, find_answer, written, correction_of, corrected_of};
-ghost use Rattle.table.specs.Tables.{scheme_of, Kept};
+ghost use Rattle.table.specs.Tables.{scheme_of, settled_of};
 
 use crate::table::Table;
-use cosets::checks::check_number;
+use cosets::checks::Checks;
 use marks::alphabet::Alphabet;
 use marks::mark::Mark;
 use refusals::Refusal;
@@ -17,16 +17,14 @@ use rules::rule::Rule;
 impl<A: Alphabet, R: Rule> Table<A, R> {
     // How many leaders are settled, and whether every coset is.
     pub fn tally(&self) -> (usize, bool)
-        requires { Kept A.symbols R.Rule.ranks self.now }
-        ensures { result ≡ tally_answer (scheme_of A.symbols R.Rule.ranks self.now) self.now.records.settled }
+        ensures { result ≡ tally_answer (scheme_of self.now) (settled_of self.now) }
     {
         (self.records.settled, self.records.finished)
     }
 
     // The mark number of leader j, counted from 1.
     pub fn leader(&self, j: usize) -> Result<u64, Refusal>
-        requires { Kept A.symbols R.Rule.ranks self.now }
-        ensures { result ≡ leader_answer (scheme_of A.symbols R.Rule.ranks self.now) self.now.records.settled j }
+        ensures { result ≡ leader_answer (scheme_of self.now) (settled_of self.now) j }
     {
         if j == 0 || j > self.records.settled {
             return Err(Refusal::OutOfRange);
@@ -36,24 +34,24 @@ impl<A: Alphabet, R: Rule> Table<A, R> {
 
     // The mark of the table that the bytes spell.
     fn sound_mark(&self, bytes: &[u8]) -> Result<Mark, Refusal>
-        requires { Kept A.symbols R.Rule.ranks self.now }
-        ensures value { result ≡ reading A.symbols self.now.code.n bytes.now }
-        ensures sound { IfOk result (λ mark. (mark.number ≡ number_of bytes.now) × MarkOf (scheme_of A.symbols R.Rule.ranks self.now) mark.number) }
+        ensures value { result ≡ reading A.symbols self.now.code.sizes.places.n bytes.now }
+        ensures sound { IfOk result (λ mark. (mark.number ≡ number_of bytes.now) × MarkOf (scheme_of self.now) mark.number) }
     {
-        Mark::read(&self.alphabet, self.code.n(), bytes)
+        Mark::read::<A>(self.code.n(), bytes)
     }
 
     // The number of the leader of the mark's coset, where it is settled.
     fn settled_number(&self, mark: Mark) -> Result<usize, Refusal>
-        requires kept { Kept A.symbols R.Rule.ranks self.now }
-        requires mark { MarkOf (scheme_of A.symbols R.Rule.ranks self.now) mark.number }
-        ensures value { result ≡ settled_number (scheme_of A.symbols R.Rule.ranks self.now) self.now.records.settled mark.number }
-        ensures settled { IfOk result (λ number. (number ≡ leader_number (scheme_of A.symbols R.Rule.ranks self.now) mark.number) × (number ≤ self.now.records.settled)) }
+        requires { MarkOf (scheme_of self.now) mark.number }
+        ensures value { result ≡ settled_number (scheme_of self.now) (settled_of self.now) mark.number }
+        ensures settled { IfOk result (λ number. (number ≡ leader_number (scheme_of self.now) mark.number) × (number ≤ settled_of self.now)) }
     {
-        let number = self.records.numbers[check_number(&self.alphabet, &self.code, mark)];
-        if number == 0 {
-            return Err(Refusal::NotSettled);
+        let check = Checks {
+            alphabet: &self.alphabet,
+            code: &self.code,
         }
+        .number(mark);
+        let number = self.records.number(check).ok_or(Refusal::NotSettled)?;
         Ok(usize::from(number))
     }
 
@@ -65,12 +63,10 @@ impl<A: Alphabet, R: Rule> Table<A, R> {
         correction: &mut [u8],
         corrected: &mut [u8],
     )
-        requires kept { Kept A.symbols R.Rule.ranks self.now }
-        requires mark { MarkOf (scheme_of A.symbols R.Rule.ranks self.now) mark.number }
-        requires number { (number ≡ leader_number (scheme_of A.symbols R.Rule.ranks self.now) mark.number) × (number ≤ self.now.records.settled) }
-        requires long { (length correction.old ≡ self.now.code.n) × (length corrected.old ≡ self.now.code.n) }
-        ensures correction { correction.new ≡ bytes_of self.now.code.n (leader_of (scheme_of A.symbols R.Rule.ranks self.now) mark.number) }
-        ensures corrected { corrected.new ≡ bytes_of self.now.code.n (minus A.symbols self.now.code.n mark.number (leader_of (scheme_of A.symbols R.Rule.ranks self.now) mark.number)) }
+        requires number { (number ≡ leader_number (scheme_of self.now) mark.number) × (number ≤ settled_of self.now) }
+        requires long { (length correction.old ≡ self.now.code.sizes.places.n) × (length corrected.old ≡ self.now.code.sizes.places.n) }
+        ensures correction { correction.new ≡ bytes_of self.now.code.sizes.places.n (leader_of (scheme_of self.now) mark.number) }
+        ensures corrected { corrected.new ≡ bytes_of self.now.code.sizes.places.n (minus A.symbols self.now.code.sizes.places.n mark.number (leader_of (scheme_of self.now) mark.number)) }
     {
         let leader = Mark {
             number: self.records.leaders[number - 1],
@@ -87,10 +83,9 @@ impl<A: Alphabet, R: Rule> Table<A, R> {
         correction: &mut [u8],
         corrected: &mut [u8],
     ) -> Result<usize, Refusal>
-        requires { Kept A.symbols R.Rule.ranks self.now }
-        ensures answer { result ≡ find_answer (scheme_of A.symbols R.Rule.ranks self.now) self.now.records.settled mark.now (length correction.old) (length corrected.old) }
-        ensures correction { correction.new ≡ written (scheme_of A.symbols R.Rule.ranks self.now) result (correction_of (scheme_of A.symbols R.Rule.ranks self.now) mark.now) correction.old }
-        ensures corrected { corrected.new ≡ written (scheme_of A.symbols R.Rule.ranks self.now) result (corrected_of (scheme_of A.symbols R.Rule.ranks self.now) mark.now) corrected.old }
+        ensures answer { result ≡ find_answer (scheme_of self.now) (settled_of self.now) mark.now (length correction.old) (length corrected.old) }
+        ensures correction { correction.new ≡ written (scheme_of self.now) result (correction_of (scheme_of self.now) mark.now) correction.old }
+        ensures corrected { corrected.new ≡ written (scheme_of self.now) result (corrected_of (scheme_of self.now) mark.now) corrected.old }
     {
         let seen = self.sound_mark(mark)?;
         if correction.len() != self.code.n() || corrected.len() != self.code.n() {

@@ -1,31 +1,26 @@
-use Rattle.std.proofs.Common.{◌≡◌, ℕ, ◌*◌, ◌<◌, ◌≤◌, ◌⊎◌, length, get_or, sym, ap, ◌∙◌, inl, inr, mul-zero, zero-mul, arith}
-use Rattle.std.proofs.lemmas.List.{get_or_past}
+use Rattle.std.proofs.Common.{◌≡◌, ℕ, ◌*◌, ◌^◌, ◌<◌, ◌≤◌, ◌⊎◌, List, length, get_or, take, min, sym, ap, ◌∙◌, inl, inr, mul-zero, zero-mul, arith}
+use Rattle.std.proofs.lemmas.List.{get_or_past, get_or-take, length-take-le}
 use Rattle.std.proofs.lemmas.Bool.{cases_lt}
-use Rattle.algebra.specs.Digits.{digit, total}
+use Rattle.algebra.specs.Digits.{digit}
 use Rattle.algebra.specs.Marks.{nonzero}
-use Rattle.algebra.proofs.Digits.{digit_past, total_extended}
-use Rattle.algebra.proofs.Rankings.{nonzero_zero, cost_more, cost_same}
+use Rattle.algebra.specs.Rankings.{cost_of}
+use Rattle.algebra.proofs.Digits.{digit_past, total_extended, total_same}
+use Rattle.algebra.proofs.Rankings.{nonzero_zero}
 use Rattle.rules.proofs.cost.cost_of_first.Goals as goal
 
-pub loop-i-init : goal.loop-i-init
-unfolding total
-loop-i-init c = omega arith
+taken : (n m : ℕ) (costs : List ℕ) (u : ℕ) → m ≡ min n (length costs) → u < 4 ^ 32
+    → cost_of (min (length (take m costs)) 32) (λ i. get_or (take m costs) i 0) u ≡ cost_of n (λ i. get_or costs i 0) u
+taken n m costs u e small =
+    total_same (min (length (take m costs)) 32) _ _ (λ i h. ap (λ cost. nonzero (digit u i) * cost) (get_or-take m costs i 0 (omega (arith, long))))
+    ∙ sym (total_extended (min (length (take m costs)) 32) n _ (λ i k l. free i k l (cases_lt i (length costs))) (omega (arith, long)))
+  where
+    long : length (take m costs) ≡ m
+    long = length-take-le m costs (omega arith)
 
-pub loop-i-preserved : goal.loop-i-preserved
-loop-i-preserved c =
-    let cost : ℕ → ℕ = λ k. get_or c.args.costs.now k 0 in
-    let some = cost_more c.loop-i.i cost c.args.mark.number in
-    let none = cost_same c.loop-i.i cost c.args.mark.number in
-    grind (arith, some, none, c.type_inv.costs c.loop-i.i)
+    free : (i : ℕ) → min (length (take m costs)) 32 ≤ i → i < n → (i < length costs) ⊎ (length costs ≤ i) → nonzero (digit u i) * get_or costs i 0 ≡ 0
+    free i k l (inl h) =
+        ap (λ x. x * get_or costs i 0) (nonzero_zero _ (digit_past 32 u i small (omega (arith, long)))) ∙ zero-mul (get_or costs i 0)
+    free i k l (inr h) = ap (λ cost. nonzero (digit u i) * cost) (get_or_past costs i 0 h) ∙ mul-zero (nonzero (digit u i))
 
 pub returns : goal.returns
-returns c = c.loop-i.invariant.0 ∙ sym (total_extended c.loop-i.i c.args.n _ none (omega arith))
-  where
-    none : (k : ℕ) → c.loop-i.i ≤ k → k < c.args.n → nonzero (digit c.args.mark.number k) * get_or c.args.costs.now k 0 ≡ 0
-    none k l s = at (cases_lt k (length c.args.costs.now))
-      where
-        at : (k < length c.args.costs.now) ⊎ (length c.args.costs.now ≤ k) → nonzero (digit c.args.mark.number k) * get_or c.args.costs.now k 0 ≡ 0
-        at (inl h) =
-            ap (λ x. x * get_or c.args.costs.now k 0) (nonzero_zero _ (digit_past 32 c.args.mark.number k (omega arith) (omega arith)))
-            ∙ zero-mul (get_or c.args.costs.now k 0)
-        at (inr h) = ap (λ x. nonzero (digit c.args.mark.number k) * x) (get_or_past c.args.costs.now k 0 h) ∙ mul-zero (nonzero (digit c.args.mark.number k))
+returns c = c.cost_of.ensures ∙ taken c.args.n c.min.result c.args.costs.now c.args.mark.number c.min.ensures (omega arith)

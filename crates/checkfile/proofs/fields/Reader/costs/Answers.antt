@@ -1,37 +1,35 @@
-use Rattle.std.proofs.Common.{◌+◌, ◌*◌, Some, sym, ap, ◌∙◌, arith}
-use Rattle.std.proofs.lemmas.Result.{err_from_is_err_and}
-use Rattle.refusals.specs.declared.Refusal.TheVariants.{CostInFile}
-use Rattle.checkfile.specs.Tests.{field_tests}
-use Rattle.checkfile.proofs.FirstRefusal.{first_here, cost_fails, costs_pass}
+use Rattle.std.proofs.Common.{◌*◌, Ok, Err, refl, subst}
+use Rattle.checkfile.specs.Steps.{Reads, FieldAt}
+use Rattle.checkfile.specs.Tests.{field_tests, price_tests}
+use Rattle.checkfile.proofs.Stepping.{stops_first, cost_out, costs_affordable, costs_in}
 use Rattle.checkfile.proofs.fields.Reader.costs.Goals as goal
+use Rattle.checkfile.proofs.fields.Reader.costs.Goals.{In_err-field, In_ok-field}
+
+-- what is known of the field, by the places' number
+refused : (c : In_err-field) → Reads c.args.self.now c.field.new.self (λ file at. field_tests file at 5 (2 * c.args.places.n)) (FieldAt (2 * c.args.places.n)) (Err c.in_err-field.field-0.0)
+refused c = subst (λ n. Reads c.args.self.now c.field.new.self (λ file at. field_tests file at 5 (2 * n)) (FieldAt (2 * n)) (Err c.in_err-field.field-0.0)) c.get.ensures.value c.in_err-field.ensures
+
+found : (c : In_ok-field) → Reads c.args.self.now c.field.new.self (λ file at. field_tests file at 5 (2 * c.args.places.n)) (FieldAt (2 * c.args.places.n)) (Ok c.in_ok-field.field)
+found c = subst (λ n. Reads c.args.self.now c.field.new.self (λ file at. field_tests file at 5 (2 * n)) (FieldAt (2 * n)) (Ok c.in_ok-field.field)) c.get.ensures.value c.in_ok-field.ensures
 
 pub returns-in_err-field : goal.returns-in_err-field
 returns-in_err-field c =
-    let p = err_from_is_err_and c.from_residual.result c.from_residual.ensures.1 in
+    stops_first (λ file at. field_tests file at 5 (2 * c.args.places.n)) (λ file at. price_tests file at c.args.places.n) (refused (goal.at.returns-in_err-field c).In_err-field) c.from_residual.ensures.1
+
+pub returns-in-Some : goal.returns-in-Some
+returns-in-Some c =
+    cost_out (found (goal.at.returns-in-Some c).In_ok-field) c.args.places.size.1 c.numbers.result c.numbers.ensures.len c.numbers.ensures.items c.in-Some.k c.in-Some.ensures
+
+pub invariant_of-result : goal.invariant_of-result
+invariant_of-result c =
+    let field = found (goal.at.invariant_of-result c).In_ok-field in
     record {
-      file = c.field.ensures.file;
-      judged = rw (p.1, p.2) (first_here (field_tests c.args.self.now.file.now c.args.self.now.offset 5 (2 * c.args.n)) _ _ c.in_err-field.ensures.judged);
+      long = field.judged.1.long;
+      affordable = costs_affordable field c.args.places.size.1 c.numbers.result c.numbers.ensures.len c.numbers.ensures.items c.in-None.ensures;
     }
 
-pub returns-then-pair_at-gt1000 : goal.returns-then-pair_at-gt1000
-returns-then-pair_at-gt1000 c =
-    let f = c.in_ok-field.ensures.judged in
-    record {
-      file = c.field.ensures.file;
-      judged =
-          cost_fails c.args.self.now.file.now c.in_ok-field.field.contents.now c.args.self.now.offset c.args.n f.1.1 f.0
-          c.loop-k.k c.loop-k-test.true c.loop-k.invariant (omega arith)
-          ∙ ap (λ at. Some (CostInFile (at + 2 * c.loop-k.k))) (sym f.1.0);
-    }
-
-pub returns : goal.returns
-returns c =
-    let f = c.in_ok-field.ensures.judged in
-    record {
-      file = c.field.ensures.file;
-      judged = (
-        costs_pass c.args.self.now.file.now c.in_ok-field.field.contents.now c.args.self.now.offset c.args.n f.1.1 f.0
-            (λ j h. c.loop-k.invariant j (omega arith)),
-        (f.1.1, f.1.2, f.1.3, λ j h. c.loop-k.invariant j (omega arith)),
-      );
-    }
+pub returns-in-None : goal.returns-in-None
+returns-in-None c =
+    let field = found (goal.at.returns-in-None c).In_ok-field in
+    costs_in field c.args.places.size.1 c.numbers.result c.numbers.ensures.len c.numbers.ensures.items _ c.in-None.ensures
+    record { of_all = refl; part = field.judged.1.part; moves_on = field.judged.1.moves_on }

@@ -22,7 +22,7 @@ part file rest at size e =
 
 pub returns-in_default : goal.returns-in_default
 returns-in_default c = record {
-  file = refl;
+  same_file = refl;
   judged = head_fails c.args.self.now.file.now c.args.self.now.offset c.args.tag c.args.size (omega (arith, ltb-true));
 }
 
@@ -31,7 +31,7 @@ returns-then-found-tag c =
     let file = c.args.self.now.file.now in
     let at = c.args.self.now.offset in
     record {
-      file = refl;
+      same_file = refl;
       judged =
           tag_fails file at c.args.tag c.args.size (omega (arith, ltb-false))
           (λ e. c.if-found-tag.true (first file c.rest.result.now at c.rest.ensures.places ∙ e));
@@ -43,7 +43,7 @@ returns-then-from-size c =
     let at = c.args.self.now.offset in
     let rest = c.rest.result.now in
     record {
-      file = refl;
+      same_file = refl;
       judged =
           length_fails file at c.args.tag c.args.size (omega (arith, ltb-false))
           (sym (first file rest at c.rest.ensures.places) ∙ c.if-found-tag.false)
@@ -56,7 +56,7 @@ returns-then-rest-size c =
     let at = c.args.self.now.offset in
     let rest = c.rest.result.now in
     record {
-      file = refl;
+      same_file = refl;
       judged =
           contents_fail file at c.args.tag c.args.size (omega (arith, ltb-false))
           (sym (first file rest at c.rest.ensures.places) ∙ c.if-found-tag.false)
@@ -74,17 +74,17 @@ returns c =
     let rest = c.rest.result.now in
     let long : length rest - 3 ≡ length (take (length rest - 3) (drop 3 rest)) = omega (arith, ap length (take_rest rest 3), length-drop 3 rest) in
     record {
-      file = refl;
+      same_file = refl;
       judged = (
         field_passes file at c.args.tag c.args.size (omega (arith, ltb-false))
             (sym (first file rest at c.rest.ensures.places) ∙ c.if-found-tag.false)
             (omega (arith, second file rest at c.rest.ensures.places))
             (omega (arith, ltb-false)),
-        (
-          refl,
-          part file rest at c.args.size c.rest.ensures.value,
-          (let whole : c.args.size - 0 ≡ c.args.size = omega arith in length-take-le (c.args.size - 0) (take (length rest - 3) (drop 3 rest)) (omega arith) ∙ whole),
-          refl,
-        ),
+        record {
+          begins = refl;
+          part = part file rest at c.args.size c.rest.ensures.value;
+          long = let whole : c.args.size - 0 ≡ c.args.size = omega arith in length-take-le (c.args.size - 0) (take (length rest - 3) (drop 3 rest)) (omega arith) ∙ whole;
+          moves_on = refl;
+        },
       );
     }

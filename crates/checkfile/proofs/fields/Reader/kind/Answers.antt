@@ -1,38 +1,34 @@
-use Rattle.std.proofs.Common.{◌+◌, Some, sym, ap, ◌∙◌, arith}
-use Rattle.std.proofs.lemmas.Result.{err_from_is_err_and}
+use Rattle.std.proofs.Common.{◌≡◌, ℕ, ◌+◌, true, false, Result, Ok, Err, IsErrAnd, MatchResult, sym, ap, ◌∙◌, arith, rules}
+use Rattle.std.proofs.lemmas.Result.{err_from_is_err_and, MatchResult-weaker}
+use Rattle.refusals.specs.declared.Refusal.{Refusal}
 use Rattle.refusals.specs.declared.Refusal.TheVariants.{RuleByte}
+use Rattle.checkfile.specs.declared.kind.Kind.{Kind}
+use Rattle.checkfile.specs.declared.kind.UnknownKind.{UnknownKind}
+use Rattle.checkfile.specs.Kinds.{Decodes}
 use Rattle.checkfile.specs.Layout.{is_kind, kind_of}
-use Rattle.checkfile.specs.Tests.{field_tests}
-use Rattle.checkfile.proofs.FirstRefusal.{first_here, value_fails, value_passes, first_byte}
+use Rattle.checkfile.proofs.Stepping.{stops_first, content, tested}
 use Rattle.checkfile.proofs.fields.Reader.kind.Goals as goal
 
 pub returns-in_err-field : goal.returns-in_err-field
-returns-in_err-field c =
-    let p = err_from_is_err_and c.from_residual.result c.from_residual.ensures.1 in
-    record {
-      file = c.field.ensures.file;
-      judged = rw (p.1, p.2) (first_here (field_tests c.args.self.now.file.now c.args.self.now.offset 4 1) _ _ c.in_err-field.ensures.judged);
-    }
+returns-in_err-field c = stops_first _ _ c.in_err-field.ensures c.from_residual.ensures.1
 
-pub returns-in_default : goal.returns-in_default
-returns-in_default c =
-    let file = c.args.self.now.file.now in
-    let at = c.args.self.now.offset in
-    let f = c.in_ok-field.ensures.judged in
-    let b = first_byte file _ at 1 f.1.1 (omega arith) in
-    record {
-      file = c.field.ensures.file;
-      judged = value_fails (field_tests file at 4 1) _ (RuleByte (at + 3)) f.0 (ap is_kind (sym b) ∙ c.in_default.ensures) ∙ ap (λ k. Some (RuleByte k)) (sym f.1.0);
-    }
+-- the kind of a byte, or the refusal of a byte of none
+named : (b b' at next : ℕ) (d : Result Kind UnknownKind) (r : Result Kind Refusal) (e : Refusal) → b ≡ b' → next ≡ at + 4 → Decodes b d → MatchResult d (λ kind. r ≡ Ok kind) (λ _. IsErrAnd r (λ y. y ≡ e))
+    → MatchResult r (λ kind. (is_kind b' ≡ true) × ((kind ≡ kind_of b') × (next ≡ at + 4))) (λ y. (is_kind b' ≡ false) × (y ≡ e))
+named b b' at next (Ok kind) r e f m h k = rw k (ap is_kind (sym f) ∙ h.0, (h.1 ∙ ap kind_of f, m))
+named b b' at next (Err x) r e f m h k = let p = err_from_is_err_and r k in rw p.1 (ap is_kind (sym f) ∙ h.0, p.2)
+
+-- of an error, what follows from what is known of it
+err_weaker : {T E : Type 0} (r : Result T E) (P Q : E → Type 0) → ((e : E) → P e → Q e) → IsErrAnd r P → IsErrAnd r Q
+err_weaker (Ok x) P Q f h = h
+err_weaker (Err e) P Q f h = f e h
 
 pub returns : goal.returns
 returns c =
-    let file = c.args.self.now.file.now in
-    let at = c.args.self.now.offset in
-    let f = c.in_ok-field.ensures.judged in
-    let b = first_byte file _ at 1 f.1.1 (omega arith) in
-    let k = c.in-Some.ensures in
-    record {
-      file = c.field.ensures.file;
-      judged = (value_passes (field_tests file at 4 1) _ (RuleByte (at + 3)) f.0 (ap is_kind (sym b) ∙ k.0), (k.1 ∙ ap kind_of b, omega (arith, f.1.3)));
-    }
+    let field = c.in_ok-field.ensures in
+    let b = content 4 field 0 (omega arith) in
+    let moves : c.field.new.self.offset ≡ c.args.self.now.offset + 4 = omega (arith, field.judged.1.moves_on) in
+    let refused = MatchResult-weaker c.try_from.result {P' = λ kind. c.map_err.result ≡ Ok kind} {Q' = λ _. IsErrAnd c.map_err.result (λ y. y ≡ RuleByte c.in_ok-field.field.offset)}
+    c.map_err.ensures.cases (λ x h. h) (λ e. err_weaker c.map_err.result _ _ (λ y h. search rules))
+    in
+    tested 4 field _ RuleByte _ (named _ _ c.args.self.now.offset _ c.try_from.result c.map_err.result (RuleByte c.in_ok-field.field.offset) b moves c.try_from.ensures refused)
