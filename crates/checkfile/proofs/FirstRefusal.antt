@@ -82,10 +82,10 @@ module _ (t : ℕ → Test) where
       ∙ row_fails (a + 1) n k (omega arith) (λ j l. ap (λ m. (t m).passed) (e j) ∙ before (suc j) (omega arith)) (ap (λ m. (t m).passed) (e k) ∙ here)
       ∙ ap (λ m. Some (t m).refusal) (e k)
 
-  all_pass : (n : ℕ) → ((k : ℕ) → k < n → (t k).passed ≡ true) → first_refusal (map t (range_with_len 0 n)) ≡ None
+  pub all_pass : (n : ℕ) → ((k : ℕ) → k < n → (t k).passed ≡ true) → first_refusal (map t (range_with_len 0 n)) ≡ None
   all_pass n h = row_passes 0 n (λ k l. ap (λ m. (t m).passed) (zero-add k) ∙ h k l)
 
-  one_fails : (n k : ℕ) → k < n → ((j : ℕ) → j < k → (t j).passed ≡ true) → (t k).passed ≡ false → first_refusal (map t (range_with_len 0 n)) ≡ Some (t k).refusal
+  pub one_fails : (n k : ℕ) → k < n → ((j : ℕ) → j < k → (t j).passed ≡ true) → (t k).passed ≡ false → first_refusal (map t (range_with_len 0 n)) ≡ Some (t k).refusal
   one_fails n k h before here =
       row_fails 0 n k h (λ j l. ap (λ m. (t m).passed) (zero-add j) ∙ before j l) (ap (λ m. (t m).passed) (zero-add k) ∙ here)
       ∙ ap (λ m. Some (t m).refusal) (zero-add k)

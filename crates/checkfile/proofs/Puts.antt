@@ -1,7 +1,7 @@
 -- Bytes put one after the other are put at once.
-use Rattle.std.proofs.Common.{◌≡◌, ℕ, ◌+◌, ◌-◌, ◌*◌, ◌/◌, ◌%◌, ◌<◌, ◌≤◌, List, [], ◌∷◌, ◌++◌, length, get_or, take, drop, sym, refl, ap, ◌∙◌, append_assoc, arith, take-append-drop}
+use Rattle.std.proofs.Common.{◌≡◌, ℕ, ◌+◌, ◌-◌, ◌*◌, ◌/◌, ◌%◌, ◌<◌, ◌≤◌, List, [], ◌∷◌, ◌++◌, length, get_or, take, drop, set, sym, refl, ap, ◌∙◌, append_assoc, arith, take-append-drop}
 use Rattle.std.specs.List.{flat_map}
-use Rattle.std.proofs.lemmas.List.{drop-drop, length-append, length-drop, length-take-le, take_more, flat_map_more}
+use Rattle.std.proofs.lemmas.List.{drop-drop, length-append, length-drop, length-set, length-take-le, take_more, take_more_set, flat_map_more}
 use Rattle.checkfile.specs.declared.code.Code.{Code}
 use Rattle.rules.specs.declared.cost.Costs.{Costs}
 use Rattle.checkfile.specs.declared.rule.FileRule.{FileRule}
@@ -27,6 +27,15 @@ pub put_first : (xs : List ℕ) (before after : List ℕ) (end : ℕ) → Put xs
 put_first xs before after end p =
     let e : end ≡ length xs = omega (arith, p.moves_on) in
     sym (take-append-drop end after) ∙ ap (λ zs. zs ++ drop end after) p.front ∙ ap (λ zs. xs ++ zs) (p.back ∙ ap (λ k. drop k before) e)
+
+-- two bytes more
+pub two_more : (bytes : List ℕ) (k hi lo : ℕ) → 2 * k + 1 < length bytes → take (2 * (k + 1)) (set (set bytes (2 * k) hi) (2 * k + 1) lo) ≡ take (2 * k) bytes ++ (hi ∷ (lo ∷ []))
+two_more bytes k hi lo h =
+    let e : 2 * (k + 1) ≡ 2 * k + 1 + 1 = omega arith in
+    ap (λ m. take m (set (set bytes (2 * k) hi) (2 * k + 1) lo)) e
+    ∙ take_more_set (set bytes (2 * k) hi) (2 * k + 1) lo (omega (arith, length-set bytes (2 * k) hi))
+    ∙ ap (λ zs. zs ++ (lo ∷ [])) (take_more_set bytes (2 * k) hi (omega arith))
+    ∙ append_assoc (take (2 * k) bytes) (hi ∷ []) (lo ∷ [])
 
 -- one cost more
 pub costs_more : (costs : List ℕ) (k : ℕ) → k < length costs → flat_map two_bytes (take (k + 1) costs) ≡ flat_map two_bytes (take k costs) ++ two_bytes (get_or costs k 0)

@@ -49,7 +49,7 @@ rule_made places file at next (lent.Cost costs) (Cost rule) m e h = (
 
 module _ (file : List ℕ) (table : LentTable) (lent : LentRule) (here : TableAt file 0 table (rule_offset file)) (behind : RuleAt table.sizes.places file (rule_offset file) lent (length file)) (code : Code) (rule : FileRule)
     (made : (code.sizes ≡ table.sizes) × (take (code.sizes.places.n * code.sizes.r) code.checks ≡ table.symbols.now)) (of : MadeOf lent rule) where
-  read_content : content_of code rule ≡ content_at file
+  pub read_content : content_of code rule ≡ content_at file
   read_content =
       let s = here.sizes in
       let r = rule_made table.sizes.places file (cost_offset file) (length file) lent rule of behind.of_all behind.costs in

@@ -56,8 +56,10 @@ pub fn replay<A: Alphabet + Drop, R: Rule + Drop>(
     if let Some(refusal) = refused {
         return Err(refusal);
     }
-    for entry in entries.iter_mut() {
-        make(&mut table, entry);
+    // By an index and not `iter_mut`, so that an edit which starts past the first is refused for what it leaves out, and one
+    // which starts at the first is not.
+    for i in 0..entries.len() {
+        make(&mut table, &mut entries[i]);
     }
     Ok(())
 }

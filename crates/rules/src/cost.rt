@@ -11,7 +11,7 @@ use crate::length::Length;
 use crate::lists::{first_above, padded};
 use crate::measure::{Measure, Measured};
 use crate::rule::{Rule, RuleMade};
-use marks::mark::Mark;
+use marks::mark::{Mark, PLACES};
 use refusals::Refusal;
 
 // A number for each place, which counts where the place is filled.
@@ -48,8 +48,9 @@ pub fn cost_of(costs: &[u16], mark: Mark) -> u32
     ensures { result ≡ cost_of (min (length costs.now) 32) (λ i. slice_index costs.now i) mark.number }
 {
     let mut sum = 0;
+    let counted = &costs[..costs.len().min(PLACES)];
     // A chain would zip places, filter, map and sum, for the same two lines.
-    for (place, cost) in costs.iter().enumerate() {
+    for (place, cost) in counted.iter().enumerate() {
         if mark.symbol(place) != 0 {
             sum += u32::from(*cost);
         }

@@ -1,5 +1,5 @@
 pub mod Opening
 pub mod Tables
 mod Queues
-mod Settling
+pub mod Settling
 pub mod Finding

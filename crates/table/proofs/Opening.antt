@@ -35,7 +35,7 @@ check_symbol code i j =
 
 -- a scheme whose parts fit is proper
 module _ (S : Symbols) (code : Code) (R : MarkRanking) (lawful : Lawful S) (ranks : Ranks R) where
-  fitting : R.n ≡ code.sizes.places.n → S.q ≡ code.sizes.q → Proper (scheme_over S code R)
+  pub fitting : R.n ≡ code.sizes.places.n → S.q ≡ code.sizes.q → Proper (scheme_over S code R)
   fitting places count = record {
     alphabet = lawful;
     ranks = ranks;

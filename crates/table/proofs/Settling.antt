@@ -1,5 +1,5 @@
 -- One more leader is settled: its record is written.
-use Rattle.std.proofs.Common.{◌≡◌, ℕ, ◌+◌, ◌<◌, ◌≤◌, Bool, true, false, cond, leb, ◌⊎◌, length, get_or, take, set, is_some, Some, None, sym, refl, ap, ◌∙◌, subst, inl, inr, arith, length-take}
+use Rattle.std.proofs.Common.{◌≡◌, ℕ, ◌+◌, ◌<◌, ◌≤◌, Bool, true, false, cond, leb, ◌⊎◌, length, get_or, take, set, is_some, Some, None, Ok, sym, refl, ap, ◌∙◌, subst, inl, inr, arith, length-take}
 use Rattle.std.proofs.lemmas.List.{get_or-take, get_or-set_same, get_or-set_other, length-set}
 use Rattle.std.proofs.lemmas.Bool.{cases_eq, leb-true, leb-false}
 use Rattle.std.proofs.lemmas.Bool.Decides.{nat_tests}
@@ -7,6 +7,7 @@ use Rattle.leaders.specs.Leaders.{check_of, leaders, coset_count, leader_number}
 use Rattle.leaders.specs.Schemes.{Scheme, MarkOf, Proper}
 use Rattle.leaders.proofs.Adding.{check_below}
 use Rattle.leaders.proofs.Leaders.{at_mark, few_leaders, number_at, number_same, same_number}
+use Rattle.table.specs.Answers.{scratch_size, grow_answer, accepted}
 use Rattle.table.specs.Records.{recorded, Settled}
 use Rattle.table.specs.declared.records.Records.{Records}
 
@@ -87,3 +88,7 @@ module _ (T : Scheme) (proper : Proper T) (records : Records) (settled : Settled
         at_number v m (inr e) =
             get_or-set_other records.numbers (check_of T u) (check_of T v) (Some (k + 1)) None e ∙ settled.number v m
             ∙ there (leader_number T v) (λ p. e (same_number T proper v u m next_mark (p ∙ sym number_is)))
+
+-- a grow within its bounds is accepted, and its amount counts
+pub grow_accepted : (T : Scheme) (amount room : ℕ) → amount ≤ 256 → scratch_size T ≤ room → (grow_answer T amount room ≡ Ok tt) × (accepted T amount room ≡ amount)
+grow_accepted T amount room h l = (grind (arith, nat_tests), grind (arith, nat_tests))
