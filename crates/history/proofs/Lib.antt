@@ -1,3 +1,3 @@
 mod Single
-mod Promises
+pub mod Promises
 mod Turns

@@ -41,7 +41,7 @@ mark_was T k (Ok mark) first second m e = (mark, refl)
 mark_was T k (Err x) first second m e = absurd (never cc)
 
 -- buffers of the right length leave the answer to the look-up
-found_with_buffers : (T : Scheme) (k : ℕ) (mark : Mark) (first second : ℕ) (r : Result ℕ Refusal) → first ≡ T.checks.n → second ≡ T.checks.n → r ≡ settled_number T k mark.number → r ≡ found_of T k (Ok mark) first second
+pub found_with_buffers : (T : Scheme) (k : ℕ) (mark : Mark) (first second : ℕ) (r : Result ℕ Refusal) → first ≡ T.checks.n → second ≡ T.checks.n → r ≡ settled_number T k mark.number → r ≡ found_of T k (Ok mark) first second
 found_with_buffers T k mark first second r e e' h =
     h ∙ sym (cond-true (eqb first T.checks.n && eqb second T.checks.n) (settled_number T k mark.number) (Err Buffer)
     (and_from (eqb first T.checks.n) (eqb second T.checks.n) (eq-eqb first T.checks.n e) (eq-eqb second T.checks.n e')))

@@ -56,8 +56,7 @@ pub fn replay<A: Alphabet + Drop, R: Rule + Drop>(
     if let Some(refusal) = refused {
         return Err(refusal);
     }
-    // By an index and not `iter_mut`, so that an edit which starts past the first is refused for what it leaves out, and one
-    // which starts at the first is not.
+    // By an index and no `iter_mut`: docs/DESIGN-PASS.md says why, at the loops.
     for i in 0..entries.len() {
         make(&mut table, &mut entries[i]);
     }
